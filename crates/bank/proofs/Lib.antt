@@ -1,0 +1,5 @@
+mod Jobbed
+mod Four
+mod Bagged
+mod Finishing
+mod Picks

@@ -1,0 +1,3 @@
+// A board of fair shares around a card.
+pub mod answer;
+pub mod board;

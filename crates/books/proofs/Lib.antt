@@ -1,0 +1,9 @@
+pub mod Sums
+pub mod Counts
+pub mod Arrivals
+pub mod Opened
+pub mod Moves
+pub mod Removes
+pub mod Changes
+pub mod Ready
+pub mod Bits

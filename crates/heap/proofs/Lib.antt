@@ -1,0 +1,4 @@
+pub mod Held
+pub mod Queue
+pub mod Sorting
+pub mod Steps

@@ -1,0 +1,5 @@
+pub mod Records
+pub mod Waits
+pub mod Leads
+pub mod Lanes
+pub mod Table

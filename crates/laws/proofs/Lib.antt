@@ -1,0 +1,5 @@
+pub mod Clocks
+pub mod Keeps
+pub mod Sent
+pub mod Hand
+pub mod Times

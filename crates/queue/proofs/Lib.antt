@@ -1,0 +1,2 @@
+mod Queued
+mod Orders

@@ -1,0 +1,9 @@
+pub mod Steps
+pub mod Turns
+pub mod Fronts
+pub mod Numbers
+pub mod Forms
+pub mod Texts
+pub mod Locals
+pub mod Sizes
+pub mod Accounts

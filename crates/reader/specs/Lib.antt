@@ -1,0 +1,6 @@
+pub mod Lines
+pub mod Format
+pub mod Views
+pub mod Verdict
+pub mod Grammar
+pub mod Account

@@ -1,0 +1,2 @@
+mod Circles
+pub mod Uses

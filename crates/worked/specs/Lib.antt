@@ -1,0 +1,3 @@
+pub mod Rehearsal
+pub mod Examples
+pub mod Limit

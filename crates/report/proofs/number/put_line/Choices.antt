@@ -1,0 +1,10 @@
+use mathlib.Core.Path.{_≡_}
+use mathlib.Core.List.{_++_}
+use lib.ListN.{drop}
+use Rattle.std.specs.Of.Vec.{vec-items}
+use Rattle.report.specs.Answers.{spaced}
+use Rattle.report.proofs.number.put_line.Given as given
+
+-- with the numbers to come, the line has all of them
+abbrev pub Inv-loop-n : given.InvT-loop-n
+Inv-loop-n l = vec-items (l .out) ++ spaced (drop (l .n-index) (l .numbers)) ≡ vec-items (l .entry .out) ++ spaced (l .numbers)

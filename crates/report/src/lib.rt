@@ -1,0 +1,5 @@
+// What a flight prints: one line for each step of a script.
+pub mod answer;
+pub mod number;
+pub mod pieces;
+pub mod report;

@@ -1,0 +1,4 @@
+pub mod Steps
+pub mod Texts
+pub mod Deeds
+pub mod Turns

@@ -1,0 +1,5 @@
+pub mod Messages
+pub mod Words
+pub mod Lines
+pub mod Scripts
+pub mod Views

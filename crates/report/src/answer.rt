@@ -50,7 +50,11 @@ fn put_sending(out: &mut Vec<u8>, sending: Sending) -> Result<(), AllocError>
             ticket,
             flow,
             charge,
-        } => put_line(out, b"sent", &[u64::from(ticket), u64::from(flow), u64::from(charge)]),
+        } => put_line(
+            out,
+            b"sent",
+            &[u64::from(ticket), u64::from(flow), u64::from(charge)],
+        ),
     }
 }
 
@@ -66,7 +70,12 @@ fn put_reaping(out: &mut Vec<u8>, reaping: Reaping) -> Result<(), AllocError>
         } => put_line(
             out,
             b"finished",
-            &[u64::from(ticket), u64::from(flow), u64::from(charge), u64::from(status)],
+            &[
+                u64::from(ticket),
+                u64::from(flow),
+                u64::from(charge),
+                u64::from(status),
+            ],
         ),
         Reaping::NotYet => put_line(out, b"not yet", &[]),
         Reaping::Idle => put_line(out, b"idle", &[]),
@@ -92,11 +101,19 @@ pub fn put_answer(out: &mut Vec<u8>, answer: Answer) -> Result<(), AllocError>
 {
     match answer {
         Answer::Loaded(Ok(())) => put_line(out, b"loaded", &[]),
-        Answer::Arrived(Ok((ticket, (start, end)))) => put_line(out, b"arrived", &[u64::from(ticket), start, end]),
+        Answer::Arrived(Ok((ticket, (start, end)))) => put_line(
+            out,
+            b"arrived",
+            &[u64::from(ticket), start, end],
+        ),
         Answer::Moved(Ok(sending)) => put_sending(out, sending),
         Answer::Reaped(Ok(reaping)) => put_reaping(out, reaping),
         Answer::VirtualTime(time) => put_line(out, b"time", &[time]),
-        Answer::ReadyLanes(mask, count) => put_line(out, b"ready", &[u64::from(mask), u64::from(count)]),
+        Answer::ReadyLanes(mask, count) => put_line(
+            out,
+            b"ready",
+            &[u64::from(mask), u64::from(count)],
+        ),
         Answer::OfFlow(Ok(state)) => put_flow(out, state),
         Answer::Loaded(Err(refusal)) => put_refused(out, refusal),
         Answer::Arrived(Err(refusal)) => put_refused(out, refusal),

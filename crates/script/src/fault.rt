@@ -87,7 +87,8 @@ impl Expected {
     {
         match self {
             Expected::Card => "`card queue` or `card bank`",
-            Expected::AnyCall => "`sheet`, `arrive`, `send`, `kick`, `reap`, `time`, `ready` or `flow`",
+            Expected::AnyCall =>
+                "`sheet`, `arrive`, `send`, `kick`, `reap`, `time`, `ready` or `flow`",
             Expected::Form(word) => word.form(),
             Expected::SheetLine => "a line of the sheet",
         }

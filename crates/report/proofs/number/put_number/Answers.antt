@@ -29,8 +29,8 @@ returns c =
     let long : length ds ≡ 20 = simp length-set (i .0) in
     c .in-Continue-extend-from-slice .ensures tt .items
     ∙ ap (λ t. vec-items (c .args .out .now) ++ t) (
-      ap (λ n. take (n - (c .loop-left .at - 1)) (drop (c .loop-left .at - 1) ds)) (sym long)
-      ∙ take-rest ds (c .loop-left .at - 1)
-      ∙ spell-last (c .loop-left .digits) (c .loop-left .at) (c .loop-left .left) (i .1) (omega arith) (c .loop-left-test .left)
-      ∙ i .4
+    ap (λ n. take (n - (c .loop-left .at - 1)) (drop (c .loop-left .at - 1) ds)) (sym long)
+    ∙ take-rest ds (c .loop-left .at - 1)
+    ∙ spell-last (c .loop-left .digits) (c .loop-left .at) (c .loop-left .left) (i .1) (omega arith) (c .loop-left-test .left)
+    ∙ i .4
     )

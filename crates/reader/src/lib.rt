@@ -10,7 +10,7 @@ ghost use Rattle.reader.specs.Views.{Reads};
 mod cursor;
 mod draft;
 pub mod fault;
-pub mod line;
+mod line;
 pub mod verdict;
 mod walk;
 

@@ -24,7 +24,7 @@ fn run_before(s: &[u8], mark: u8) -> usize
 }
 
 // The parts before and after the first `mark`.
-pub fn cut(s: &[u8], mark: u8) -> Option<(&[u8], &[u8])>
+pub(crate) fn cut(s: &[u8], mark: u8) -> Option<(&[u8], &[u8])>
     ensures { λ r. ⌜ mapped (λ p. (now (p .0), now (p .1))) r ≡ cutAt mark (now (s .entry)) ⌝ }
 {
     let i = run_before(s, mark);

@@ -1,5 +1,7 @@
 // What a flight prints: one line for each step of a script.
 pub mod answer;
-pub mod number;
+mod number;
 pub mod pieces;
 pub mod report;
+#[cfg(test)]
+mod tests;

@@ -21,7 +21,7 @@ line-shorter bytes h =
     cond-both (ltb (before 10 bytes) (length bytes)) (Some (take (before 10 bytes) bytes, drop (before 10 bytes + 1) bytes)) None
     (λ (o : Option (List ℕ × List ℕ)). length (valueOr o (bytes, []) .1) < length bytes)
     (λ t. omega (arith, length-drop (before 10 bytes + 1) bytes, ltb-true _ _ t))
-    (λ _. omega (arith, length {A = ℕ} []))
+    (λ _. omega arith)
 
 -- a line with its line feed is a front of the text
 pub line-front : (bytes : List ℕ) → (front : List ℕ) × (front ++ lineAt bytes .1 ≡ bytes)

@@ -1,9 +1,10 @@
 // The reader of flight scripts: a card, and calls to be made on a board around it.
-
-pub mod cursor;
+mod cursor;
+mod cut;
 pub mod fault;
+pub mod laws;
 pub mod line;
-pub mod number;
+mod number;
 pub mod reading;
 pub mod script;
-pub mod walk;
+mod walk;

@@ -4,11 +4,11 @@ ghost use Rattle.std.specs.Options.{mapped};
 ghost use Rattle.std.specs.shelf.Text.{sameBytes};
 ghost use Rattle.script.specs.Lines.{arrivalOf, bareOf, cardOf, isBlank, lineOf, numberedOf, partsOf};
 ghost use Rattle.script.specs.Words.{wordOf};
+use crate::cut::cut;
 use crate::fault::Expected;
 use crate::fault::Word;
 use crate::number::number;
 use fly::call::Call;
-use reader::line::cut;
 
 /// The kinds of card that a script can name.
 #[derive(Clone, Copy, Debug, PartialEq, Eq)]

@@ -11,12 +11,12 @@ ghost use Rattle.script.specs.Scripts.{CardSaid, lineAt, nextLine, skipped};
 ghost use Rattle.script.specs.Views.{restOf};
 ghost use Rattle.script.specs.declared.fault.Expected.the-variants.{SheetLine};
 use crate::cursor::Cursor;
+use crate::cut::cut;
 use crate::fault::Expected;
 use crate::fault::ScriptFault;
 use crate::line::CardKind;
 use crate::line::card_of;
 use crate::line::is_blank;
-use reader::line::cut;
 
 // The first line, without its line feed, and what follows.
 fn first_line(text: &[u8]) -> (&[u8], &[u8])

@@ -1,11 +1,11 @@
 -- Sorting keeps the records and puts them in order, and lists with the same records sort to the same list. Assumes nothing.
-use Rattle.std.proofs.Common.{◌≡◌, ℕ, suc, ◌+◌, Bool, true, false, cond, ◌&&◌, ◌||◌, eqb, ltb, List, [], ◌∷◌, length, sum_by, sym, refl, ap, ◌∙◌, subst, ⊎_elim, arith}
+use Rattle.std.proofs.Common.{◌≡◌, ℕ, suc, ◌+◌, Bool, true, false, cond, ◌&&◌, eqb, ltb, List, [], ◌∷◌, length, sum_by, sym, refl, ap, ◌∙◌, ⊎_elim, arith}
 use Rattle.std.specs.List.{AllByRecursion as All}
 use Rattle.std.specs.List.Sorted.{IsPermutation}
 use Rattle.std.proofs.lemmas.List.Sums.{sum_by-cons}
-use Rattle.std.proofs.lemmas.List.Sorted.{sum_by-IsPermutation, IsPermutation-refl, IsPermutation-sym, IsPermutation-trans, IsPermutation-cons, IsPermutation-swap}
-use Rattle.std.proofs.lemmas.Bool.{cond-true, cond-false, cond_both, cases_Bool, both_ways, or_cases, or_left, or_right, and_parts, and_from, lt-ltb, eq-eqb, ltb-true, eqb-true, or_parts, cases_order, le-ltb, ltb-false}
-use Rattle.heap.specs.Sorting.{upto, insert, sorted, Sorts, SortingStands}
+use Rattle.std.proofs.lemmas.List.Sorted.{sum_by-IsPermutation, IsPermutation-refl, IsPermutation-trans, IsPermutation-cons, IsPermutation-swap}
+use Rattle.std.proofs.lemmas.Bool.{cond-true, cond-false, cond_both, cases_Bool, both_ways, or_cases, or_left, or_right, and_parts, and_from, lt-ltb, eq-eqb, ltb-true, eqb-true, or_parts, cases_order}
+use Rattle.heap.specs.Sorting.{upto, insert, sorted, SortingStands}
 pub use Rattle.heap.specs.Sorting.{First, Ordered}
 
 pub upto_either : (as' bs : List ℕ) → upto as' bs ≡ false → upto bs as' ≡ true

@@ -1,4 +1,6 @@
 // A binary heap over lent memory, for every kind of record that has a total order, and lists of records in order.
+#![tactic(auto)]
+
 mod edits;
 pub mod heap;
 pub mod lists;

@@ -4,15 +4,15 @@ use Rattle.std.proofs.lemmas.List.Sorted.{IsPermutation-trans}
 use Rattle.heap.proofs.Steps as steps
 use Rattle.heap.proofs.sifts.lift.Goals as goal
 
-pub returns-then-at-or-before : goal.returns-then-at-or-before
-returns-then-at-or-before g c =
+pub returns-then-at_or_before : goal.returns-then-at_or_before
+returns-then-at_or_before g c =
     let upto = g.T.TotalOrder.upto in
     let laws = g.met.T.TotalOrder in
     let s = c.args.s.now in
     let hole = c.args.hole in
     let parent = c.args.parent in
     let x = c.args.x.now in
-    (refl, λ h. steps.rise_rests upto laws.total laws.transitive (set s hole x) parent hole c.requires.0 (steps.parent-read upto laws.total laws.transitive s parent hole x c.index-s-parent.result true c.requires.0 c.requires.1 c.if-at-or-before.ensures) h)
+    (refl, λ h. steps.rise_rests upto laws.total laws.transitive (set s hole x) parent hole c.requires.0 (steps.parent-read upto laws.total laws.transitive s parent hole x c.index-s-parent.result true c.requires.0 c.requires.1 c.if-at_or_before.ensures) h)
 
 pub returns : goal.returns
 returns g c =
@@ -30,6 +30,6 @@ returns g c =
       λ ws h. IsPermutation-trans _ _ _ h (steps.hole-shuffles s hole parent x y (omega arith) (omega arith) (omega arith) moved.is),
       λ h. steps.rise_steps upto laws.total laws.transitive (set s hole x) (set (set s hole y) parent x) parent hole c.requires.0 (omega arith) (omega arith)
           (steps.hole-swaps s hole parent x y (omega arith) (omega arith) (omega arith) moved.is)
-          (steps.parent-read upto laws.total laws.transitive s parent hole x c.index-s-parent.result false c.requires.0 c.requires.1 c.if-at-or-before.ensures)
+          (steps.parent-read upto laws.total laws.transitive s parent hole x c.index-s-parent.result false c.requires.0 c.requires.1 c.if-at_or_before.ensures)
           h,
     )

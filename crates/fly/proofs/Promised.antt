@@ -10,7 +10,7 @@ use Rattle.card.specs.declared.Command.{Command}
 use Rattle.shares.specs.Events as share
 use Rattle.shares.specs.Steps as step
 use Rattle.shares.proofs.Fairness.{law, noted}
-use Rattle.shares.proofs.Shuffles.{shuffled-from-sums, sumBy-map}
+use Rattle.shares.proofs.Shuffles.{shuffled_from_sums, sum_by-map}
 use Rattle.books.specs.Model.{State, empty}
 use Rattle.books.specs.Views.{state_of}
 use Rattle.lanes.specs.declared.records.Request.{Request}
@@ -30,7 +30,7 @@ use Rattle.fly.proofs.Kicking.{can_send, has_sent, lead_waits, waits_lead}
 use Rattle.fly.proofs.Runs.{Around, around}
 
 commands_from_sums : (xs ys : List Command) → ((g : Command → ℕ) → sum_by g xs ≡ sum_by g ys) → IsPermutation xs ys
-commands_from_sums = shuffled-from-sums ((λ c. c.ticket) ∷ (λ c. c.sectors) ∷ []) (λ c d p. λ i. record { ticket = p.0 i; sectors = p.1.0 i })
+commands_from_sums = shuffled_from_sums ((λ c. c.ticket) ∷ (λ c. c.sectors) ∷ []) (λ c d p. λ i. record { ticket = p.0 i; sectors = p.1.0 i })
 
 new_books : step.New (bare None (empty blank))
 new_books = record { sheet = refl; waiting = refl }
@@ -88,9 +88,9 @@ module _ {C : Type 0} (depth : ℕ) (held : C → List Command) (finishes : C �
       let k = known run x e in
       let rs = (state_of b.books).in_card in
       let all : (g : Command → ℕ) → sum_by g (map command_of (after log).unfinished) ≡ sum_by g (held b.card) = λ g.
-      sumBy-map command_of g (after log).unfinished
+      sum_by-map command_of g (after log).unfinished
       ∙ sym (sum_by-IsPermutation (λ (r : share.Request). g (command_of r)) (after log).unfinished (map request_of rs) k.unfinished)
-      ∙ sumBy-map request_of (λ (r : share.Request). g (command_of r)) rs
+      ∙ sum_by-map request_of (λ (r : share.Request). g (command_of r)) rs
       ∙ sym (k.tie.same g) in
       let shuffled = commands_from_sums (map command_of (after log).unfinished) (held b.card) all in
       (shuffled, omega (arith, length_permutation (map command_of (after log).unfinished) (held b.card) shuffled, length-map (after log).unfinished command_of, length_permutation (after log).unfinished (map request_of rs) k.unfinished, k.room))

@@ -7,7 +7,7 @@ use Rattle.std.proofs.lemmas.Bool.{or_cases, and_parts, ltb-true, eqb-true}
 use Rattle.heap.proofs.Sorting.{First, Ordered}
 use Rattle.shares.specs.Events as share
 use Rattle.shares.specs.Steps as step
-use Rattle.shares.proofs.Shuffles.{sumBy-map}
+use Rattle.shares.proofs.Shuffles.{sum_by-map}
 use Rattle.lanes.specs.Lanes.{starts, least}
 use Rattle.lanes.specs.Records.{by_start}
 use Rattle.books.specs.Model.{waiting}
@@ -18,7 +18,7 @@ pub waiting_sums : (g : share.Request → ℕ) (ls : List (List Request)) → su
 waiting_sums g [] = refl
 waiting_sums g (w ∷ ls) =
     let rest = waiting_sums g ls in
-    omega (arith, rest, ap (sum_by g) (map-append request_of w (flat_map (λ v. v) ls)), sum_by-append g (map request_of w) (waiting_of ls), sumBy-map request_of g w, sum_by-cons (sum_by (λ (r : Request). g (request_of r))) w ls)
+    omega (arith, rest, ap (sum_by g) (map-append request_of w (flat_map (λ v. v) ls)), sum_by-append g (map request_of w) (waiting_of ls), sum_by-map request_of g w, sum_by-cons (sum_by (λ (r : Request). g (request_of r))) w ls)
 
 pub least_under : (v : ℕ) (ns : List ℕ) → All (λ n. least v ns ≤ n) ns
 least_under v [] = tt

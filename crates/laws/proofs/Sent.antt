@@ -16,7 +16,7 @@ use Rattle.card.specs.declared.CardFault.{CardFault}
 use Rattle.card.specs.declared.Command.{Command}
 use Rattle.shares.specs.Events as share
 use Rattle.shares.specs.Steps as step
-use Rattle.shares.proofs.Shuffles.{requests_from_sums, sumBy-map}
+use Rattle.shares.proofs.Shuffles.{requests_from_sums, sum_by-map}
 use Rattle.lanes.specs.Lanes.{starts, least}
 use Rattle.lanes.specs.Waits.{lanes_in}
 use Rattle.near.specs.Lanes.{distance}
@@ -45,7 +45,7 @@ sends s l r rest k fair lane l8 near room =
     let loses : IsPermutation (waiting_of s.lanes) (request_of r ∷ waiting_of s'.lanes) = requests_from_sums (waiting_of s.lanes) (request_of r ∷ waiting_of s'.lanes)
     (λ g. omega (arith, sum_by-cons g (request_of r) (waiting_of s'.lanes), waiting_sums g s.lanes, waiting_sums g s'.lanes, waiting_less (λ (q : Request). g (request_of q)) s.lanes l r rest (omega (arith, k.0.0, l8)) lane)) in
     let gains : IsPermutation (request_of r ∷ map request_of s.in_card) (map request_of s'.in_card) = requests_from_sums (request_of r ∷ map request_of s.in_card) (map request_of s'.in_card)
-    (λ g. omega (arith, sum_by-cons g (request_of r) (map request_of s.in_card), sumBy-map request_of g s.in_card, sumBy-map request_of g s'.in_card, sumBy-insert by_ticket (λ (q : Request). g (request_of q)) r s.in_card)) in
+    (λ g. omega (arith, sum_by-cons g (request_of r) (map request_of s.in_card), sum_by-map request_of g s.in_card, sum_by-map request_of g s'.in_card, sumBy-insert by_ticket (λ (q : Request). g (request_of q)) r s.in_card)) in
     let timely = k.1.1.1.1.1.1.1.1.1.0 in
     let over : All (λ (q : share.Request). s.time ≤ q.start) (waiting_of s.lanes) = all_over s.time s.lanes (subst (λ v. All (λ n. v ≤ n) (starts s.lanes)) timely (least_under s.time (starts s.lanes))) fair.3 in
     let over' = (all_shuffled (λ (q : share.Request). s.time ≤ q.start) (waiting_of s.lanes) (request_of r ∷ waiting_of s'.lanes) loses over).1 in
@@ -135,7 +135,7 @@ reaps_step_lem s (Some d) k = go (found d.0 s.in_card) refl
           (λ i. record { ticket = p.0 i; flow = q.flow; charge = q.charge }),
           record {
             card = requests_from_sums (map request_of s.in_card) (request_of q ∷ map request_of (without d.0 s.in_card))
-                (λ g. omega (arith, sum_by-cons g (request_of q) (map request_of (without d.0 s.in_card)), sumBy-map request_of g s.in_card, sumBy-map request_of g (without d.0 s.in_card), p.1 (λ (r : Request). g (request_of r))));
+                (λ g. omega (arith, sum_by-cons g (request_of q) (map request_of (without d.0 s.in_card)), sum_by-map request_of g s.in_card, sum_by-map request_of g (without d.0 s.in_card), p.1 (λ (r : Request). g (request_of r))));
             calm = record { waiting = IsPermutation-refl _; onward = omega arith; still = inr refl };
             tags = λ f. refl;
             count = refl;

@@ -8,7 +8,7 @@ use Rattle.std.proofs.lemmas.List.Sorted.{sum_by-IsPermutation}
 use Rattle.std.proofs.lemmas.Bool.{cond-true, cond-false, eq-eqb, not_from_true, not_from_false}
 use Rattle.shares.specs.Events.{Sheet, Request, mark, loaded, arrived, sent, finished, nothing, Seen, note, with_ticket}
 use Rattle.shares.specs.Steps.{Books, Loads, Arrives, Sends, Finishes, Rests}
-use Rattle.shares.proofs.Sums.{own, gains, loses, sumBy-same, sumBy-kept-by, none_of}
+use Rattle.shares.proofs.Sums.{own, gains, loses, sum_by_same, sum_by-filter, none_of}
 use Rattle.shares.proofs.Sound.{Sound}
 
 -- the lists have the same elements: so every sum over one is that over the other
@@ -32,7 +32,7 @@ left_out t x g xs ys h once =
       arith,
       loses (λ y. cond (not (eqb (t y) (t x))) (g y) 0) x xs ys h,
       cond-false (not (eqb (t x) (t x))) (g x) 0 (not_from_true _ (eq-eqb (t x) (t x) refl)),
-      sumBy-same (λ y. cond (not (eqb (t y) (t x))) (g y) 0) g ys same,
+      sum_by_same (λ y. cond (not (eqb (t y) (t x))) (g y) 0) g ys same,
     )
 
 -- to pick what has x's ticket is to pick x
@@ -45,28 +45,28 @@ picked t x g xs ys h once =
       arith,
       loses (λ y. cond (eqb (t y) (t x)) (g y) 0) x xs ys h,
       own (t x) (t x) (g x) refl,
-      sumBy-same (λ y. cond (eqb (t y) (t x)) (g y) 0) (λ _. 0) ys same,
+      sum_by_same (λ y. cond (eqb (t y) (t x)) (g y) 0) (λ _. 0) ys same,
       sum_by_zero ys,
     )
 
 module _ {s : Sheet} {t : Seen} {b b' : Books} (i : Sound s b) (k : Sees t b) where
-  pub sees-arrived : (r : Request) → Arrives b s r b' → Sees (note t (arrived r)) b'
-  sees-arrived r a = record {
+  pub sees_arrived : (r : Request) → Arrives b s r b' → Sees (note t (arrived r)) b'
+  sees_arrived r a = record {
     sheet = k.sheet ∙ sym a.sheet;
     waiting = λ g. omega (arith, sum_by-cons g r t.waiting, k.waiting g, gains g r b.waiting b'.waiting a.waiting);
     card = λ g. k.card g ∙ sym (sum_by-IsPermutation g b.card b'.card a.card);
     count = omega (arith, k.count, a.count);
   }
 
-  pub sees-sent : (r : Request) → Sends b s r b' → Sees (note t (sent (mark r))) b'
-  sees-sent r a = record {
+  pub sees_sent : (r : Request) → Sends b s r b' → Sees (note t (sent (mark r))) b'
+  sees_sent r a = record {
     sheet = k.sheet ∙ sym a.sheet;
-    waiting = λ g. sumBy-kept-by (λ q. not (eqb q.ticket r.ticket)) g t.waiting ∙ k.waiting _
+    waiting = λ g. sum_by-filter (λ q. not (eqb q.ticket r.ticket)) g t.waiting ∙ k.waiting _
         ∙ left_out (λ q. q.ticket) r g b.waiting b'.waiting a.waiting (omega (arith, i.tickets.once r.ticket));
     card = λ g. omega (
       arith,
       sum_by-append g (with_ticket r.ticket t.waiting) t.unfinished,
-      sumBy-kept-by (λ q. eqb q.ticket r.ticket) g t.waiting,
+      sum_by-filter (λ q. eqb q.ticket r.ticket) g t.waiting,
       k.waiting (λ q. cond (eqb q.ticket r.ticket) (g q) 0),
       picked (λ q. q.ticket) r g b.waiting b'.waiting a.waiting (omega (arith, i.tickets.once r.ticket)),
       k.card g,
@@ -75,17 +75,17 @@ module _ {s : Sheet} {t : Seen} {b b' : Books} (i : Sound s b) (k : Sees t b) wh
     count = k.count ∙ sym a.count;
   }
 
-  pub sees-finished : (r : Request) → Finishes b r b' → Sees (note t (finished (mark r))) b'
-  sees-finished r a = record {
+  pub sees_finished : (r : Request) → Finishes b r b' → Sees (note t (finished (mark r))) b'
+  sees_finished r a = record {
     sheet = k.sheet ∙ sym a.sheet;
     waiting = λ g. k.waiting g ∙ sym (sum_by-IsPermutation g b.waiting b'.waiting a.calm.waiting);
-    card = λ g. sumBy-kept-by (λ q. not (eqb q.ticket r.ticket)) g t.unfinished ∙ k.card _
+    card = λ g. sum_by-filter (λ q. not (eqb q.ticket r.ticket)) g t.unfinished ∙ k.card _
         ∙ left_out (λ q. q.ticket) r g b.card b'.card a.card (omega (arith, i.tickets.once r.ticket));
     count = k.count ∙ sym a.count;
   }
 
-  pub sees-nothing : Rests b b' → Sees (note t nothing) b'
-  sees-nothing a = record {
+  pub sees_nothing : Rests b b' → Sees (note t nothing) b'
+  sees_nothing a = record {
     sheet = k.sheet ∙ sym a.sheet;
     waiting = λ g. k.waiting g ∙ sym (sum_by-IsPermutation g b.waiting b'.waiting a.calm.waiting);
     card = λ g. k.card g ∙ sym (sum_by-IsPermutation g b.card b'.card a.card);

@@ -8,16 +8,16 @@ use Rattle.std.proofs.lemmas.Bool.{cases_Bool, cond-true, cond-false, eqb-true, 
 use Rattle.shares.specs.Events.{Request}
 
 module _ {X : Type 0} where
-  pub sumBy-map : {Y : Type 0} (h : Y → X) (g : X → ℕ) (ys : List Y) → sum_by g (map h ys) ≡ sum_by (λ y. g (h y)) ys
-  sumBy-map h g [] = refl
-  sumBy-map h g (y ∷ ys) = omega (arith, sum_by-cons g (h y) (map h ys), sum_by-cons (λ z. g (h z)) y ys, sumBy-map h g ys)
+  pub sum_by-map : {Y : Type 0} (h : Y → X) (g : X → ℕ) (ys : List Y) → sum_by g (map h ys) ≡ sum_by (λ y. g (h y)) ys
+  sum_by-map h g [] = refl
+  sum_by-map h g (y ∷ ys) = omega (arith, sum_by-cons g (h y) (map h ys), sum_by-cons (λ z. g (h z)) y ys, sum_by-map h g ys)
 
-  shuffled-inside : (x : X) (ls rs : List X) → IsPermutation (x ∷ (ls ++ rs)) (ls ++ (x ∷ rs))
-  shuffled-inside x [] rs = IsPermutation-refl (x ∷ rs)
-  shuffled-inside x (a ∷ ls) rs =
+  shuffled_inside : (x : X) (ls rs : List X) → IsPermutation (x ∷ (ls ++ rs)) (ls ++ (x ∷ rs))
+  shuffled_inside x [] rs = IsPermutation-refl (x ∷ rs)
+  shuffled_inside x (a ∷ ls) rs =
       IsPermutation-trans (x ∷ a ∷ (ls ++ rs)) (a ∷ x ∷ (ls ++ rs)) (a ∷ (ls ++ (x ∷ rs)))
       (IsPermutation-swap (x ∷ a ∷ (ls ++ rs)) (a ∷ x ∷ (ls ++ rs)) 0 1 (omega arith) (omega arith) refl)
-      (IsPermutation-cons a (x ∷ (ls ++ rs)) (ls ++ (x ∷ rs)) (shuffled-inside x ls rs))
+      (IsPermutation-cons a (x ∷ (ls ++ rs)) (ls ++ (x ∷ rs)) (shuffled_inside x ls rs))
 
 -- a type whose values are told apart by some numbers
 agree : {X : Type 0} → List (X → ℕ) → X → X → Bool
@@ -49,16 +49,16 @@ module _ {X : Type 0} (hs : List (X → ℕ)) (tell : (x y : X) → All (λ h. h
       (y ∷ p.0, p.1, ap (λ l. y ∷ l) p.2))
       (cases_Bool (agree hs x y))
 
-  pub shuffled-from-sums : (xs ys : List X) → ((g : X → ℕ) → sum_by g xs ≡ sum_by g ys) → IsPermutation xs ys
-  shuffled-from-sums [] [] h = IsPermutation-refl []
-  shuffled-from-sums [] (y ∷ ys) h = absurd (omega (arith, h (λ _. 1), sum_by-cons (λ _. 1) y ys))
-  shuffled-from-sums (x ∷ xs) ys h =
+  pub shuffled_from_sums : (xs ys : List X) → ((g : X → ℕ) → sum_by g xs ≡ sum_by g ys) → IsPermutation xs ys
+  shuffled_from_sums [] [] h = IsPermutation-refl []
+  shuffled_from_sums [] (y ∷ ys) h = absurd (omega (arith, h (λ _. 1), sum_by-cons (λ _. 1) y ys))
+  shuffled_from_sums (x ∷ xs) ys h =
       let one = cond-true {A = ℕ} (agree hs x x) 1 0 (agree_itself hs x) in
       let p = place x ys (omega (arith, one, h (λ z. cond (agree hs x z) 1 0), sum_by-cons (λ z. cond (agree hs x z) 1 0) x xs)) in
-      let rest = shuffled-from-sums xs (p.0 ++ p.1) (λ g. omega (arith, h g, sum_by-cons g x xs, ap (sum_by g) p.2, sum_by-append g p.0 (x ∷ p.1), sum_by-cons g x p.1, sum_by-append g p.0 p.1)) in
-      let all = IsPermutation-trans (x ∷ xs) (x ∷ (p.0 ++ p.1)) (p.0 ++ (x ∷ p.1)) (IsPermutation-cons x xs (p.0 ++ p.1) rest) (shuffled-inside x p.0 p.1) in
+      let rest = shuffled_from_sums xs (p.0 ++ p.1) (λ g. omega (arith, h g, sum_by-cons g x xs, ap (sum_by g) p.2, sum_by-append g p.0 (x ∷ p.1), sum_by-cons g x p.1, sum_by-append g p.0 p.1)) in
+      let all = IsPermutation-trans (x ∷ xs) (x ∷ (p.0 ++ p.1)) (p.0 ++ (x ∷ p.1)) (IsPermutation-cons x xs (p.0 ++ p.1) rest) (shuffled_inside x p.0 p.1) in
       subst (IsPermutation (x ∷ xs)) (sym p.2) all
 
 pub requests_from_sums : (xs ys : List Request) → ((g : Request → ℕ) → sum_by g xs ≡ sum_by g ys) → IsPermutation xs ys
-requests_from_sums = shuffled-from-sums ((λ r. r.ticket) ∷ (λ r. r.flow) ∷ (λ r. r.sectors) ∷ (λ r. r.start) ∷ (λ r. r.end) ∷ (λ r. r.charge) ∷ [])
+requests_from_sums = shuffled_from_sums ((λ r. r.ticket) ∷ (λ r. r.flow) ∷ (λ r. r.sectors) ∷ (λ r. r.start) ∷ (λ r. r.end) ∷ (λ r. r.charge) ∷ [])
     (λ r q p. λ i. record { ticket = p.0 i; flow = p.1.0 i; sectors = p.1.1.0 i; start = p.1.1.1.0 i; end = p.1.1.1.1.0 i; charge = p.1.1.1.1.1.0 i })

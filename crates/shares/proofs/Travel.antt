@@ -9,7 +9,7 @@ use Rattle.std.proofs.lemmas.Bool.{cases_eq}
 use Rattle.shares.specs.Events.{Sheet, Request, Event, loaded, arrived, sent, finished, nothing}
 use Rattle.shares.specs.Steps.{Books, Step, Arrives, Sends, Finishes, Rests, Runs, stop, step}
 use Rattle.shares.specs.Law.{NoLoad, Waits, WaitsThroughout, sent_for, finished_for}
-use Rattle.shares.proofs.Sums.{own, other, gains, loses, sum_by_mono, sumBy-same, all-with}
+use Rattle.shares.proofs.Sums.{own, other, gains, loses, sum_by_mono, sum_by_same, all_with}
 use Rattle.shares.proofs.Sound.{Sound, Apt, charge_for_lem, above_for}
 use Rattle.shares.proofs.Known.{Known, known_step}
 
@@ -35,8 +35,8 @@ placed {s} {es} {b} f k w =
     let x : ℕ = b.time + s.threshold + s.largest f in
     let one = sum_by_mono (λ r. cond (eqb r.flow f) 1 0) (charge_for_lem f) b.waiting (All-weaker (Apt s) _ (λ r a. if_own r.flow f 1 r.charge a.some) b.waiting i.apt) in
     let some : 0 < W f b = omega (arith, w, one, k.sees.waiting (λ r. cond (eqb r.flow f) 1 0)) in
-    let whole = sumBy-same (above_for f b.time) (charge_for_lem f) b.waiting
-    (all-with (λ r. b.time ≤ r.start) (Apt s) _ (λ r l a. ap (λ n. cond (eqb r.flow f) n 0) (omega (arith, l, a.ends))) b.waiting i.least i.apt) in
+    let whole = sum_by_same (above_for f b.time) (charge_for_lem f) b.waiting
+    (all_with (λ r. b.time ≤ r.start) (Apt s) _ (λ r l a. ap (λ n. cond (eqb r.flow f) n 0) (omega (arith, l, a.ends))) b.waiting i.least i.apt) in
     let part = sum_by_mono (above_for f x) (charge_for_lem f) b.waiting
     (All-weaker (Apt s) _ (λ r a. if_own r.flow f (r.end - max r.start x) r.charge (omega (arith, a.ends))) b.waiting i.apt) in
     record {
@@ -51,8 +51,8 @@ pub record Moved (f : ℕ) (b : Books) (n d : ℕ) (b' : Books) : Type 0 where
   pub finished : d + C f b' ≡ n + C f b
 
 module _ {s : Sheet} {f : ℕ} {b b' : Books} (p : Placed s f b) where
-  moved-arrived : (t : Sheet) (r : Request) → Arrives b t r b' → Moved f b 0 0 b'
-  moved-arrived t r a =
+  moved_arrived : (t : Sheet) (r : Request) → Arrives b t r b' → Moved f b 0 0 b'
+  moved_arrived t r a =
       let sum = gains (charge_for_lem f) r b.waiting b'.waiting a.waiting in
       record {
         sent = ⊎_elim
@@ -62,14 +62,14 @@ module _ {s : Sheet} {f : ℕ} {b b' : Books} (p : Placed s f b) where
         finished = omega (arith, sum_by-IsPermutation (charge_for_lem f) b.card b'.card a.card);
       }
 
-  moved-sent : (t : Sheet) (r : Request) → Sends b t r b' → Moved f b (charge_for_lem f r) 0 b'
-  moved-sent t r a = record {
+  moved_sent : (t : Sheet) (r : Request) → Sends b t r b' → Moved f b (charge_for_lem f r) 0 b'
+  moved_sent t r a = record {
     sent = omega (arith, loses (charge_for_lem f) r b.waiting b'.waiting a.waiting, a.tags f);
     finished = omega (arith, gains (charge_for_lem f) r b.card b'.card a.card);
   }
 
-  moved-finished : (r : Request) → Finishes b r b' → Moved f b 0 (charge_for_lem f r) b'
-  moved-finished r a = record {
+  moved_finished : (r : Request) → Finishes b r b' → Moved f b 0 (charge_for_lem f r) b'
+  moved_finished r a = record {
     sent = omega (arith, sum_by-IsPermutation (charge_for_lem f) b.waiting b'.waiting a.calm.waiting, a.tags f);
     finished = omega (arith, loses (charge_for_lem f) r b.card b'.card a.card);
   }
@@ -80,12 +80,12 @@ module _ {s : Sheet} {f : ℕ} {b b' : Books} (p : Placed s f b) where
     finished = omega (arith, sum_by-IsPermutation (charge_for_lem f) b.card b'.card a.card);
   }
 
-  moved-step : (e : Event) → NoLoad e → Step b e b' → Moved f b (sent_for f e) (finished_for f e) b'
-  moved-step (loaded t) n st = absurd n
-  moved-step (arrived r) n st = moved-arrived st.0 r st.2
-  moved-step (sent m) n st = subst (λ m. Moved f b (sent_for f (sent m)) 0 b') st.3 (moved-sent st.0 st.2 st.4)
-  moved-step (finished m) n st = subst (λ m. Moved f b 0 (finished_for f (finished m)) b') st.3 (moved-finished st.2 st.4)
-  moved-step nothing n st = moved_nothing st
+  moved_step : (e : Event) → NoLoad e → Step b e b' → Moved f b (sent_for f e) (finished_for f e) b'
+  moved_step (loaded t) n st = absurd n
+  moved_step (arrived r) n st = moved_arrived st.0 r st.2
+  moved_step (sent m) n st = subst (λ m. Moved f b (sent_for f (sent m)) 0 b') st.3 (moved_sent st.0 st.2 st.4)
+  moved_step (finished m) n st = subst (λ m. Moved f b 0 (finished_for f (finished m)) b') st.3 (moved_finished st.2 st.4)
+  moved_step nothing n st = moved_nothing st
 
 pub known_runs : {s : Sheet} (es : List Event) {b b' : Books} {str : List Event} → Known s es b → All NoLoad str → Runs b str b' → Known s (es ++ str) b'
 known_runs {s} es {b} k n stop = rw append-nil k
@@ -97,7 +97,7 @@ pub moved_runs : {s : Sheet} (f : ℕ) (es : List Event) {b b' : Books} {str : L
 moved_runs f es k n w stop = record { sent = omega arith; finished = refl }
 moved_runs f es k n w (step {e = e} {es = rest} st run) =
     let here = rw append-nil at (w [] (e ∷ rest) refl) in
-    let one = moved-step (placed f k here) e n.0 st in
+    let one = moved_step (placed f k here) e n.0 st in
     let all = moved_runs f (es ++ (e ∷ [])) (known_step es e k n.0 st) n.1
     (λ done left q. subst (Waits f) (sym (append_assoc es (e ∷ []) done)) (w (e ∷ done) left (ap (λ l. e ∷ l) q))) run in
     record {

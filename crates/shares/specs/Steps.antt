@@ -2,7 +2,7 @@
 use Rattle.std.specs.Prelude.{◌≡◌, ℕ, ◌+◌, ◌<◌, ◌≤◌, max, ◌⊎◌, List, [], ◌∷◌, length, Some, None, Option, ◌≢◌}
 use Rattle.std.specs.List.{AllByRecursion as All}
 use Rattle.std.specs.List.Sorted.{IsPermutation}
-use Rattle.shares.specs.Events.{Sheet, Request, Mark, mark, Event, loaded, arrived, sent, finished, nothing, seen}
+use Rattle.shares.specs.Events.{Sheet, Request, mark, Event, loaded, arrived, sent, finished, nothing, seen}
 use Rattle.shares.specs.Law.{Law}
 
 -- The sheet in force, virtual time, each flow's end tag, the requests that wait and those in the card, and the number of arrivals since the load.

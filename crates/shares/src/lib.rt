@@ -1,4 +1,6 @@
 // The law of fair shares, over every run of a step relation that knows no code. Code that keeps the relation has the law from here.
+#![tactic(auto)]
+
 ghost use Rattle.shares.specs.Steps.{Shares};
 
 // Of every run from a new board: flows that wait throughout a stretch share by weight within the limits, tickets count the arrivals,

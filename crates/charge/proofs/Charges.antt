@@ -1,5 +1,5 @@
 -- The laws of the charge. `omega` takes a product of two variables as an unknown, so each product comes with its own law.
-use Rattle.std.proofs.Common.{◌≡◌, ℕ, ◌+◌, ◌*◌, ◌/◌, ◌%◌, ◌<◌, ◌≤◌, min, sym, ap, subst, ⊎_elim, mul-le-mul_right, suc-mul, add-mul, mul-le-mul_left, div-add-mod', mul-one, arith}
+use Rattle.std.proofs.Common.{◌≡◌, ℕ, ◌+◌, ◌*◌, ◌/◌, ◌%◌, ◌<◌, ◌≤◌, min, ap, ⊎_elim, mul-le-mul_right, suc-mul, add-mul, mul-le-mul_left, div-add-mod', mul-one, arith}
 use Rattle.std.proofs.lemmas.Nat.{mod_below}
 use Rattle.std.proofs.lemmas.Bool.{cases_lt}
 use Rattle.charge.specs.Charge.{rounded_up, charge_of, RoundsUp, Laws}

@@ -1,4 +1,6 @@
 // The charge of a request: what its flow pays for it.
+#![tactic(auto)]
+
 ghost use Rattle.std.specs.Prelude.{◌≡◌, ◌≤◌, true, IfSome};
 ghost use Rattle.charge.specs.Charge.{Laws, all_right, charge_for, examples};
 

@@ -8,4 +8,4 @@ unfolding rounded_up charge_of
 returns c =
     let low = laws.positive c.args.length c.args.weight (omega arith) (omega arith) in
     let high = laws.largest c.args.length c.args.weight (omega arith) (omega arith) in
-    record { value = search rules; bounds = (omega (arith, c.div-ceil.ensures), omega (arith, c.div-ceil.ensures)) }
+    record { value = search rules; bounds = (omega (arith, c.div_ceil.ensures), omega (arith, c.div_ceil.ensures)) }

@@ -1,4 +1,6 @@
 //! The bank card: depth 32, four banks that work side by side.
+#![tactic(auto)]
+
 ghost use Rattle.std.specs.Prelude.{◌≡◌, ℕ, ◌%◌, false, [], length, ◌≢◌, slice_index_or};
 ghost use Rattle.card.specs.Commands.{among};
 ghost use Rattle.bank.specs.Jobs.{commands_all, commands_in};

@@ -1,5 +1,5 @@
 -- What the same commands, and one command more, have in common: length, tallies, sums, and what holds of all.
-use Rattle.std.proofs.Common.{◌≡◌, ℕ, suc, ◌+◌, ◌<◌, ◌≤◌, Bool, true, false, cond, ◌||◌, eqb, ltb, List, [], ◌∷◌, ◌++◌, length, is_some, is_ok, Some, None, Ok, Err, sum_by, Option, Result, sym, refl, ap, ◌∙◌, subst, zero-add, arith, ltb-false, ltb-true, lt-ltb}
+use Rattle.std.proofs.Common.{◌≡◌, ℕ, ◌+◌, ◌≤◌, true, false, cond, ◌||◌, eqb, ltb, List, [], ◌∷◌, ◌++◌, length, is_some, is_ok, Some, None, Ok, Err, sum_by, Option, Result, sym, refl, ap, ◌∙◌, subst, zero-add, arith, ltb-false, ltb-true, lt-ltb}
 use Rattle.std.specs.List.Sorted.{IsPermutation}
 use Rattle.std.specs.List.{AllByRecursion as All}
 use Rattle.std.proofs.lemmas.List.Sorted.{IsPermutation-refl, IsPermutation-sym, IsPermutation-trans, IsPermutation-cons, IsPermutation-swap, length_permutation, sum_by-IsPermutation}
@@ -133,6 +133,6 @@ submitted_tally u depth before t n (Ok _) after s = more_tally u (command t n) b
 submitted_tally u depth before t n (Err Full) after s = same_tally u before after s.1 ∙ sym (zero-add (tally u before))
 submitted_tally u depth before t n (Err HeldAlready) after s = same_tally u before after s.2 ∙ sym (zero-add (tally u before))
 
-pub finished-length : (before : List Command) (r : Option (ℕ × ℕ)) (after : List Command) → Finished before r after → length before ≡ length after + cond (is_some r) 1 0
-finished-length before None after f = let e = same_length before after f in omega arith
-finished-length before (Some done) after f = more_length (command done.0 f.0) after before f.1
+pub finished_length : (before : List Command) (r : Option (ℕ × ℕ)) (after : List Command) → Finished before r after → length before ≡ length after + cond (is_some r) 1 0
+finished_length before None after f = let e = same_length before after f in omega arith
+finished_length before (Some done) after f = more_length (command done.0 f.0) after before f.1

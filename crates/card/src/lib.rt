@@ -1,4 +1,6 @@
 //! A card by its meaning: its depth, and the commands that it holds.
+#![tactic(auto)]
+
 ghost use Rattle.std.specs.Prelude.{◌≡◌, ℕ, ◌+◌, List, length, Option};
 ghost use Rattle.card.specs.declared.Command.{Command};
 ghost use Rattle.card.specs.Asking.{Asked};
@@ -54,8 +56,8 @@ pub trait Card {
 
 /// Asks a card `times` times to finish, and answers how many commands it finished.
 pub fn drain<C: Card>(card: &mut C, times: usize) -> usize
-    ensures asked { Asked finishes card.old times result card.new }
-    ensures gone { length (held card.old) ≡ length (held card.new) + result }
+    ensures asked { Asked C.finishes card.old times result card.new }
+    ensures gone { length (C.held card.old) ≡ length (C.held card.new) + result }
 {
     let mut finished = 0;
     for _turn in 0..times {

@@ -1,4 +1,6 @@
 //! Short runs of slots and cards, with what the rules give for them worked out by hand.
+#![tactic(auto)]
+
 #[cfg(test)]
 mod banks;
 #[cfg(test)]

@@ -1,6 +1,8 @@
 // The lanes of a board: how far apart they are, sets of them, and the nearest of a set.
 //
 // A lane is the queue of one processor core, of eight. A set of lanes is a byte, with bit k for lane k.
+#![tactic(auto)]
+
 ghost use Rattle.std.specs.Prelude.{◌≡◌, ◌/◌, ◌%◌, ◌^◌, ◌<◌, [], MatchOption, ◌==◌, slice_index_or};
 ghost use Rattle.near.specs.Lanes.{Distances, Nearest, members, table};
 

@@ -1,4 +1,6 @@
 //! The queue card: depth 16, first in, first out.
+#![tactic(auto)]
+
 ghost use Rattle.std.specs.Prelude.{◌≡◌, []};
 ghost use Rattle.card.specs.Commands.{Finished, Submitted};
 ghost use Rattle.ring.specs.Rings.{commands_of};

@@ -1,4 +1,6 @@
 //! Commands in the order in which they came, in a circle of places.
+#![tactic(auto)]
+
 ghost use Rattle.std.specs.Prelude.{◌≡◌, ℕ, ◌-◌, ◌≤◌, length};
 
 mod methods;

@@ -1,6 +1,8 @@
 //! The slots of a board: how many requests may be in the card at once; and sending, which spends a grant of one.
 //!
 //! Taking a slot gives a grant. A grant ends by being spent on one request that is sent, or by being given back.
+#![tactic(auto)]
+
 ghost use Rattle.std.specs.Prelude.{◌≡◌, ◌+◌, ◌-◌, ◌<◌, ◌≤◌, MatchOption, MatchResult};
 ghost use Rattle.card.specs.Commands.{Submitted};
 

@@ -1,6 +1,6 @@
 -- An arrival is a step. Assumes nothing.
 use Rattle.std.proofs.Common.{◌≡◌, ℕ, zero, suc, ◌+◌, ◌<◌, ◌≤◌, max, cond, ◌||◌, eqb, ltb, leb, List, [], ◌∷◌, map, length, get_or, set, Ok, Err, sum_by, Result, sym, refl, ap, ◌∙◌, subst, ⊎_elim, arith, MatchResult}
-use Rattle.std.specs.List.{AllByRecursion as All}
+use Rattle.std.specs.List.{AllByRecursion}
 use Rattle.std.specs.List.Sorted.{IsPermutation}
 use Rattle.std.proofs.lemmas.List.{get_or-set_same, get_or-set_other}
 use Rattle.std.proofs.lemmas.List.Sums.{sum_by-cons}
@@ -24,12 +24,12 @@ use Rattle.books.proofs.Sums.{waiting_more}
 use Rattle.laws.specs.Steps.{request_of, shares_of, waiting_of, books_of, Fair, ArrivalsStep}
 use Rattle.laws.proofs.Clocks.{waiting_sums, least_under, least_over, all_over, heads_over}
 
-pub all_set : (P : List Request → Type 0) (ls : List (List Request)) (l : ℕ) (w : List Request) → All P ls → P w → All P (set ls l w)
+pub all_set : (P : List Request → Type 0) (ls : List (List Request)) (l : ℕ) (w : List Request) → AllByRecursion P ls → P w → AllByRecursion P (set ls l w)
 all_set P [] l w a p = tt
 all_set P (x ∷ xs) zero w a p = (p, a.1)
 all_set P (x ∷ xs) (suc l) w a p = (a.0, all_set P xs l w a.1 p)
 
-pub all_at : (P : List Request → Type 0) (ls : List (List Request)) (l : ℕ) → All P ls → P [] → P (get_or ls l [])
+pub all_at : (P : List Request → Type 0) (ls : List (List Request)) (l : ℕ) → AllByRecursion P ls → P [] → P (get_or ls l [])
 all_at P [] l a e = e
 all_at P (x ∷ xs) zero a e = a.0
 all_at P (x ∷ xs) (suc l) a e = all_at P xs l a.1 e
@@ -42,8 +42,8 @@ arrives s f l n k fair f< l< some most' =
     let gains : IsPermutation (request_of r ∷ waiting_of s.lanes) (waiting_of s'.lanes) = requests_from_sums (request_of r ∷ waiting_of s.lanes) (waiting_of s'.lanes)
     (λ g. omega (arith, sum_by-cons g (request_of r) (waiting_of s.lanes), waiting_sums g s.lanes, waiting_sums g s'.lanes, waiting_more (λ (q : Request). g (request_of q)) s.lanes l r (omega (arith, k.0.0, fair.1, l<)))) in
     let timely = k.1.1.1.1.1.1.1.1.1.0 in
-    let over : All (λ (q : share.Request). s.time ≤ q.start) (waiting_of s.lanes) = all_over s.time s.lanes (subst (λ v. All (λ n. v ≤ n) (starts s.lanes)) timely (least_under s.time (starts s.lanes))) fair.3 in
-    let over' : All (λ (q : share.Request). s.time ≤ q.start) (waiting_of s'.lanes) = all_shuffled (λ (q : share.Request). s.time ≤ q.start) (request_of r ∷ waiting_of s.lanes) (waiting_of s'.lanes) gains (omega arith, over) in
+    let over : AllByRecursion (λ (q : share.Request). s.time ≤ q.start) (waiting_of s.lanes) = all_over s.time s.lanes (subst (λ v. AllByRecursion (λ n. v ≤ n) (starts s.lanes)) timely (least_under s.time (starts s.lanes))) fair.3 in
+    let over' : AllByRecursion (λ (q : share.Request). s.time ≤ q.start) (waiting_of s'.lanes) = all_shuffled (λ (q : share.Request). s.time ≤ q.start) (request_of r ∷ waiting_of s.lanes) (waiting_of s'.lanes) gains (omega arith, over) in
     record {
       ticket = refl;
       charge = refl;

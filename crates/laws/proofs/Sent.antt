@@ -1,6 +1,6 @@
 -- What is sent, finished and loaded is a step. Assumes nothing.
 use Rattle.std.proofs.Common.{◌≡◌, ℕ, zero, suc, ◌+◌, ◌<◌, ◌≤◌, Bool, true, false, cond, ◌||◌, eqb, ltb, leb, List, [], ◌∷◌, map, length, get_or, take, set, replicate, Some, None, Ok, Err, sum_by, filter, Option, Result, sym, refl, ap, ◌∙◌, subst, inl, inr, ⊎_elim, arith, MatchResult}
-use Rattle.std.specs.List.{AllByRecursion as All}
+use Rattle.std.specs.List.{AllByRecursion}
 use Rattle.std.specs.List.Sorted.{IsPermutation}
 use Rattle.std.proofs.lemmas.List.{length-map, length-take, nil_from_length}
 use Rattle.std.proofs.lemmas.List.Sums.{sum_by-cons}
@@ -47,7 +47,7 @@ sends s l r rest k fair lane l8 near room =
     let gains : IsPermutation (request_of r ∷ map request_of s.in_card) (map request_of s'.in_card) = requests_from_sums (request_of r ∷ map request_of s.in_card) (map request_of s'.in_card)
     (λ g. omega (arith, sum_by-cons g (request_of r) (map request_of s.in_card), sum_by-map request_of g s.in_card, sum_by-map request_of g s'.in_card, sumBy-insert by_ticket (λ (q : Request). g (request_of q)) r s.in_card)) in
     let timely = k.1.1.1.1.1.1.1.1.1.0 in
-    let over : All (λ (q : share.Request). s.time ≤ q.start) (waiting_of s.lanes) = all_over s.time s.lanes (subst (λ v. All (λ n. v ≤ n) (starts s.lanes)) timely (least_under s.time (starts s.lanes))) fair.3 in
+    let over : AllByRecursion (λ (q : share.Request). s.time ≤ q.start) (waiting_of s.lanes) = all_over s.time s.lanes (subst (λ v. AllByRecursion (λ n. v ≤ n) (starts s.lanes)) timely (least_under s.time (starts s.lanes))) fair.3 in
     let over' = (all_shuffled (λ (q : share.Request). s.time ≤ q.start) (waiting_of s.lanes) (request_of r ∷ waiting_of s'.lanes) loses over).1 in
     let tail : Ordered by_start rest = (subst (Ordered by_start) lane (all_at (Ordered by_start) s.lanes l fair.3 tt)).1 in
     record {
@@ -97,7 +97,7 @@ kicks_step_lem depth held s l k fair =
     first j [] e t b room = rests s
     first j (r ∷ rest) e t b room = hands s j r rest (submits depth held r.ticket) k fair e b (leb-true _ _ t) room
 
-    go : (js : List ℕ) → length s.in_card < s.sheet.slots → All (λ j. (j < 8) × (ready s j ≡ true)) js → Steps s (kick_from depth held s js)
+    go : (js : List ℕ) → length s.in_card < s.sheet.slots → AllByRecursion (λ j. (j < 8) × (ready s j ≡ true)) js → Steps s (kick_from depth held s js)
     go [] room a = rests s
     go (j ∷ js) room a = first j (lane_at s j) refl a.0.1 a.0.0 room
 
@@ -175,7 +175,7 @@ loads_step_lem depth held s sheet o =
 
 -- ---- the code's books
 
-lanes_ordered : (ls : List Lane) → All (Ordered by_start) (lanes_in ls)
+lanes_ordered : (ls : List Lane) → AllByRecursion (Ordered by_start) (lanes_in ls)
 lanes_ordered [] = tt
 lanes_ordered (l ∷ ls) = (ordered-sorted by_start (take l.count l.slots), lanes_ordered ls)
 

@@ -1,6 +1,6 @@
 -- Virtual time is the least start tag. Assumes nothing.
 use Rattle.std.proofs.Common.{◌≡◌, ℕ, ◌<◌, ◌≤◌, min, List, [], ◌∷◌, ◌++◌, map, length, sym, refl, ap, ◌∙◌, subst, ⊎_elim, arith}
-use Rattle.std.specs.List.{ContainsAt as Has, flat_map, AllByRecursion as All}
+use Rattle.std.specs.List.{ContainsAt as Has, flat_map, AllByRecursion}
 use Rattle.std.proofs.ByRecursion.{has_append_right}
 use Rattle.std.proofs.lemmas.List.{map-append}
 use Rattle.std.proofs.lemmas.Bool.{cases_lt}
@@ -38,6 +38,6 @@ pub time_is_least_lem : TimeIsLeast
 time_is_least_lem b =
     let s = state_of b in
     record {
-      least = all_over s.time s.lanes (subst (λ v. All (λ n. v ≤ n) (starts s.lanes)) b.timely (least_under s.time (starts s.lanes))) (books_fair_lem b).3;
+      least = all_over s.time s.lanes (subst (λ v. AllByRecursion (λ n. v ≤ n) (starts s.lanes)) b.timely (least_under s.time (starts s.lanes))) (books_fair_lem b).3;
       attained = λ some. let p = attained s.time s.lanes some in (p.0, p.1, p.2 ∙ b.timely);
     }

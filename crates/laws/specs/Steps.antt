@@ -1,6 +1,6 @@
 -- The books of the rules as those of the share bound.
 use Rattle.std.specs.Prelude.{◌≡◌, ℕ, ◌+◌, ◌<◌, ◌≤◌, List, ◌∷◌, map, length, Some, Ok, Err, Option, Result, MatchResult, slice_index, slice_index_or}
-use Rattle.std.specs.List.{ContainsAt as Has, flat_map, AllByRecursion as All}
+use Rattle.std.specs.List.{ContainsAt as Has, flat_map, AllByRecursion}
 use Rattle.charge.specs.Charge.{charge_of}
 use Rattle.sheet.specs.Sheets.{Content, no_flow}
 use Rattle.heap.proofs.Sorting.{Ordered}
@@ -36,11 +36,11 @@ books_of s = record { sheet = Some (shares_of s.sheet); time = s.time; end = λ 
 
 -- a sheet within its counts and ranges, and lanes in order
 abbrev pub Fair : State → Type 0
-Fair s = (length s.sheet.flows ≤ 16) × (length s.sheet.lanes ≤ 8) × ((f : ℕ) → f < length s.sheet.flows → 1 ≤ (flow_at s f).weight) × All (Ordered by_start) s.lanes
+Fair s = (length s.sheet.flows ≤ 16) × (length s.sheet.lanes ≤ 8) × ((f : ℕ) → f < length s.sheet.flows → 1 ≤ (flow_at s f).weight) × AllByRecursion (Ordered by_start) s.lanes
 
 -- Virtual time is the least start tag among all that wait: none starts before it, and where anything waits some request starts then.
 pub record TimeIs (s : State) : Type 0 where
-  pub least : All (λ (q : share.Request). s.time ≤ q.start) (waiting_of s.lanes)
+  pub least : AllByRecursion (λ (q : share.Request). s.time ≤ q.start) (waiting_of s.lanes)
   pub attained : 0 < length (waiting_of s.lanes) → (q : share.Request) × Has (waiting_of s.lanes) q × (q.start ≡ s.time)
 
 -- of every board's books

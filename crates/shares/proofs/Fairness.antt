@@ -1,6 +1,6 @@
 -- Every run is fair. Assumes nothing.
 use Rattle.std.proofs.Common.{◌≡◌, ℕ, ◌+◌, ◌≤◌, List, [], ◌∷◌, ◌++◌, Some, sum_by, sym, refl, ap, ◌∙◌, subst, inl, arith}
-use Rattle.std.specs.List.{AllByRecursion as All}
+use Rattle.std.specs.List.{AllByRecursion}
 use Rattle.std.specs.List.Sorted.{IsPermutation}
 use Rattle.std.proofs.lemmas.List.{append-nil}
 use Rattle.std.proofs.lemmas.List.Sorted.{IsPermutation-sym, IsPermutation-trans}
@@ -62,7 +62,7 @@ same_card : {s : Sheet} {es : List Event} {b : Books} → Known s es b → IsPer
 same_card {s} {es} {b} k = requests_from_sums (seen es).unfinished b.card k.sees.card
 
 -- r is named by its mark, where it left the list cs, which is that of the observer
-named : {s : Sheet} {rs cs cs' : List Request} {r : Request} {m : Mark} → IsPermutation rs cs → IsPermutation cs (r ∷ cs') → All (Apt s) cs → mark r ≡ m → Names s rs m
+named : {s : Sheet} {rs cs cs' : List Request} {r : Request} {m : Mark} → IsPermutation rs cs → IsPermutation cs (r ∷ cs') → AllByRecursion (Apt s) cs → mark r ≡ m → Names s rs m
 named {s} {rs} {cs} {cs'} {r} {m} same out apt told =
     let all = IsPermutation-trans rs cs (r ∷ cs') same out in
     record {

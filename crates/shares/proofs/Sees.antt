@@ -1,6 +1,6 @@
 -- What an observer of the events has in common with the books. Assumes nothing.
 use Rattle.std.proofs.Common.{◌≡◌, ℕ, ◌≤◌, false, cond, not, eqb, List, [], ◌∷◌, sum_by, count_by, sym, refl, ◌∙◌, arith}
-use Rattle.std.specs.List.{AllByRecursion as All}
+use Rattle.std.specs.List.{AllByRecursion}
 use Rattle.std.specs.List.Sorted.{IsPermutation}
 use Rattle.std.proofs.ByRecursion.{All-weaker}
 use Rattle.std.proofs.lemmas.List.Sums.{sum_by-cons, sum_by-append}
@@ -27,7 +27,7 @@ left_out : {X : Type 0} (t : X → ℕ) (x : X) (g : X → ℕ) (xs ys : List X)
     → sum_by (λ y. cond (not (eqb (t y) (t x))) (g y) 0) xs ≡ sum_by g ys
 left_out t x g xs ys h once =
     let none : count_by (λ y. eqb (t y) (t x)) ys ≡ 0 = omega (arith, once, loses (λ y. cond (eqb (t y) (t x)) 1 0) x xs ys h, own (t x) (t x) 1 refl) in
-    let same : All (λ y. cond (not (eqb (t y) (t x))) (g y) 0 ≡ g y) ys = All-weaker (λ y. eqb (t y) (t x) ≡ false) _ (λ y e. cond-true (not (eqb (t y) (t x))) (g y) 0 (not_from_false _ e)) ys (none_of (λ y. eqb (t y) (t x)) ys none) in
+    let same : AllByRecursion (λ y. cond (not (eqb (t y) (t x))) (g y) 0 ≡ g y) ys = All-weaker (λ y. eqb (t y) (t x) ≡ false) _ (λ y e. cond-true (not (eqb (t y) (t x))) (g y) 0 (not_from_false _ e)) ys (none_of (λ y. eqb (t y) (t x)) ys none) in
     omega (
       arith,
       loses (λ y. cond (not (eqb (t y) (t x))) (g y) 0) x xs ys h,
@@ -40,7 +40,7 @@ picked : {X : Type 0} (t : X → ℕ) (x : X) (g : X → ℕ) (xs ys : List X) �
     → sum_by (λ y. cond (eqb (t y) (t x)) (g y) 0) xs ≡ g x
 picked t x g xs ys h once =
     let none : count_by (λ y. eqb (t y) (t x)) ys ≡ 0 = omega (arith, once, loses (λ y. cond (eqb (t y) (t x)) 1 0) x xs ys h, own (t x) (t x) 1 refl) in
-    let same : All (λ y. cond (eqb (t y) (t x)) (g y) 0 ≡ 0) ys = All-weaker (λ y. eqb (t y) (t x) ≡ false) _ (λ y e. cond-false (eqb (t y) (t x)) (g y) 0 e) ys (none_of (λ y. eqb (t y) (t x)) ys none) in
+    let same : AllByRecursion (λ y. cond (eqb (t y) (t x)) (g y) 0 ≡ 0) ys = All-weaker (λ y. eqb (t y) (t x) ≡ false) _ (λ y e. cond-false (eqb (t y) (t x)) (g y) 0 e) ys (none_of (λ y. eqb (t y) (t x)) ys none) in
     omega (
       arith,
       loses (λ y. cond (eqb (t y) (t x)) (g y) 0) x xs ys h,

@@ -1,6 +1,6 @@
 -- Lists over which every sum is the same have the same elements. Assumes nothing.
 use Rattle.std.proofs.Common.{◌≡◌, ℕ, ◌<◌, Bool, true, cond, ◌&&◌, eqb, List, [], ◌∷◌, ◌++◌, map, sum_by, count_by, sym, refl, ap, subst, ⊎_elim, arith}
-use Rattle.std.specs.List.{AllByRecursion as All}
+use Rattle.std.specs.List.{AllByRecursion}
 use Rattle.std.specs.List.Sorted.{IsPermutation}
 use Rattle.std.proofs.lemmas.List.Sums.{sum_by-cons, sum_by-append}
 use Rattle.std.proofs.lemmas.List.Sorted.{IsPermutation-refl, IsPermutation-trans, IsPermutation-cons, IsPermutation-swap}
@@ -29,14 +29,14 @@ unfolding agree
 agree_itself [] x = refl
 agree_itself (h ∷ hs) x = and_from (eqb (h x) (h x)) (agree hs x x) (eq-eqb (h x) (h x) refl) (agree_itself hs x)
 
-agree_means : {X : Type 0} (hs : List (X → ℕ)) (x y : X) → agree hs x y ≡ true → All (λ h. h x ≡ h y) hs
+agree_means : {X : Type 0} (hs : List (X → ℕ)) (x y : X) → agree hs x y ≡ true → AllByRecursion (λ h. h x ≡ h y) hs
 unfolding agree
 agree_means [] x y t = tt
 agree_means (h ∷ hs) x y t =
     let p = and_parts (eqb (h x) (h y)) (agree hs x y) t in
     (eqb-true (h x) (h y) p.0, agree_means hs x y p.1)
 
-module _ {X : Type 0} (hs : List (X → ℕ)) (tell : (x y : X) → All (λ h. h x ≡ h y) hs → x ≡ y) where
+module _ {X : Type 0} (hs : List (X → ℕ)) (tell : (x y : X) → AllByRecursion (λ h. h x ≡ h y) hs → x ≡ y) where
   -- where x stands in a list
   place : (x : X) (ys : List X) → 0 < count_by (agree hs x) ys → (ls rs : List X) × (ys ≡ ls ++ (x ∷ rs))
   place x [] h = absurd (omega (arith, h))

@@ -1,6 +1,6 @@
 -- What holds of the books after each step under the sheet s. Assumes nothing.
 use Rattle.std.proofs.Common.{◌≡◌, ℕ, ◌+◌, ◌-◌, ◌≤◌, max, cond, eqb, ◌∷◌, length, Some, sum_by, sym, refl, ap, ◌∙◌, ⊎_elim, arith}
-use Rattle.std.specs.List.{AllByRecursion as All}
+use Rattle.std.specs.List.{AllByRecursion}
 use Rattle.std.proofs.lemmas.List.Sorted.{sum_by-IsPermutation, length_permutation}
 use Rattle.std.proofs.ByRecursion.{all_shuffled}
 use Rattle.std.proofs.lemmas.Bool.{cases_eq}
@@ -32,8 +32,8 @@ pub record Apt (s : Sheet) (r : Request) : Type 0 where
 pub record Queue (s : Sheet) (b : Books) : Type 0 where
   pub low : (f x : ℕ) → sum_by (above_for f x) b.waiting ≤ b.end f - x
   pub high : (f x : ℕ) → b.time + s.threshold + s.largest f ≤ x → b.end f - x ≤ sum_by (above_for f x) b.waiting
-  pub least : All (λ r. b.time ≤ r.start) b.waiting
-  pub apt : All (Apt s) b.waiting
+  pub least : AllByRecursion (λ r. b.time ≤ r.start) b.waiting
+  pub apt : AllByRecursion (Apt s) b.waiting
 
 pub record Tickets (b : Books) : Type 0 where
   pub once : (k : ℕ) → tickets k b ≤ 1
@@ -42,7 +42,7 @@ pub record Tickets (b : Books) : Type 0 where
 pub record Sound (s : Sheet) (b : Books) : Type 0 where
   pub sheet : b.sheet ≡ Some s
   pub queue : Queue s b
-  pub card : All (Apt s) b.card
+  pub card : AllByRecursion (Apt s) b.card
   pub room : length b.card ≤ s.slots
   pub tickets : Tickets b
 
@@ -66,7 +66,7 @@ queue_arrived {s} {b} {b'} {r} i a = record {
   apt = all_shuffled (Apt s) (r ∷ b.waiting) b'.waiting a.waiting (record { charge = a.charge; ends = a.ends; some = a.some; most = a.most }, i.apt);
 }
 
-sent_apt : {s : Sheet} {b b' : Books} {r : Request} → Queue s b → Sends b s r b' → All (Apt s) (r ∷ b'.waiting)
+sent_apt : {s : Sheet} {b b' : Books} {r : Request} → Queue s b → Sends b s r b' → AllByRecursion (Apt s) (r ∷ b'.waiting)
 sent_apt {s} {b} {b'} {r} i a = all_shuffled (Apt s) b.waiting (r ∷ b'.waiting) a.waiting i.apt
 
 queue_sent : {s : Sheet} {b b' : Books} {r : Request} → Queue s b → Sends b s r b' → Queue s b'

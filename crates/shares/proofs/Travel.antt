@@ -1,6 +1,6 @@
 -- A flow that waits throughout a stretch: what is sent for it is what its place in virtual time has moved. Assumes nothing.
 use Rattle.std.proofs.Common.{◌≡◌, ℕ, ◌+◌, ◌-◌, ◌*◌, ◌<◌, ◌≤◌, max, cond, eqb, List, [], ◌∷◌, ◌++◌, sum_by, sym, refl, ap, subst, ⊎_elim, mul-le-mul_right, arith}
-use Rattle.std.specs.List.{AllByRecursion as All}
+use Rattle.std.specs.List.{AllByRecursion}
 use Rattle.std.proofs.ByRecursion.{All-weaker, sum_by_le}
 use Rattle.std.proofs.lemmas.List.{append-nil, append_assoc}
 use Rattle.std.proofs.lemmas.List.Sums.{sum_by-cons}
@@ -87,12 +87,12 @@ module _ {s : Sheet} {f : ℕ} {b b' : Books} (p : Placed s f b) where
   moved_step (finished m) n st = subst (λ m. Moved f b 0 (finished_for f (finished m)) b') st.3 (moved_finished st.2 st.4)
   moved_step nothing n st = moved_nothing st
 
-pub known_runs : {s : Sheet} (es : List Event) {b b' : Books} {str : List Event} → Known s es b → All NoLoad str → Runs b str b' → Known s (es ++ str) b'
+pub known_runs : {s : Sheet} (es : List Event) {b b' : Books} {str : List Event} → Known s es b → AllByRecursion NoLoad str → Runs b str b' → Known s (es ++ str) b'
 known_runs {s} es {b} k n stop = rw append-nil k
 known_runs {s} es k n (step {b'' = b''} {e = e} {es = rest} st run) =
     subst (λ l. Known s l b'') (append_assoc es (e ∷ []) rest) (known_runs (es ++ (e ∷ [])) (known_step es e k n.0 st) n.1 run)
 
-pub moved_runs : {s : Sheet} (f : ℕ) (es : List Event) {b b' : Books} {str : List Event} → Known s es b → All NoLoad str → WaitsThroughout f es str → Runs b str b'
+pub moved_runs : {s : Sheet} (f : ℕ) (es : List Event) {b b' : Books} {str : List Event} → Known s es b → AllByRecursion NoLoad str → WaitsThroughout f es str → Runs b str b'
     → Moved f b (sum_by (sent_for f) str) (sum_by (finished_for f) str) b'
 moved_runs f es k n w stop = record { sent = omega arith; finished = refl }
 moved_runs f es k n w (step {e = e} {es = rest} st run) =

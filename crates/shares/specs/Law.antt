@@ -1,6 +1,6 @@
 -- The law of fair shares, told by the events alone.
 use Rattle.std.specs.Prelude.{◌≡◌, ℕ, ◌+◌, ◌*◌, ◌<◌, ◌≤◌, cond, List, ◌∷◌, ◌++◌, Some, sum_by, count_by, ◌==◌, nat_eq}
-use Rattle.std.specs.List.{ContainsAt as Has, AllByRecursion as All}
+use Rattle.std.specs.List.{ContainsAt as Has, AllByRecursion}
 use Rattle.shares.specs.Events.{Sheet, Request, Mark, mark, Event, loaded, arrived, sent, finished, nothing, seen}
 
 -- The charge in a `sent`, and that in a `finished`, for the flow f.
@@ -39,7 +39,7 @@ WaitsThroughout f pre str = (done rest : List Event) → done ++ rest ≡ str �
 -- A stretch: the events str after pre, under the sheet s, with no load among them, throughout which the flows f and g have a request waiting.
 pub record Stretch (s : Sheet) (pre str : List Event) (f g : ℕ) : Type 0 where
   pub sheet : (seen pre).sheet ≡ Some s
-  pub unloaded : All NoLoad str
+  pub unloaded : AllByRecursion NoLoad str
   pub waits_f : WaitsThroughout f pre str
   pub waits_g : WaitsThroughout g pre str
 

@@ -1,6 +1,6 @@
 -- The books of a fair-queueing board, and what each event may do to them: a relation, and no program. Whatever keeps it has fair shares.
 use Rattle.std.specs.Prelude.{◌≡◌, ℕ, ◌+◌, ◌<◌, ◌≤◌, max, ◌⊎◌, List, [], ◌∷◌, length, Some, None, Option, ◌≢◌}
-use Rattle.std.specs.List.{AllByRecursion as All}
+use Rattle.std.specs.List.{AllByRecursion}
 use Rattle.std.specs.List.Sorted.{IsPermutation}
 use Rattle.shares.specs.Events.{Sheet, Request, mark, Event, loaded, arrived, sent, finished, nothing, seen}
 use Rattle.shares.specs.Law.{Law}
@@ -17,7 +17,7 @@ pub record Books : Type 0 where
 -- Virtual time after a request has joined or left those that wait: it never falls, and no waiting request starts before it.
 pub record Clock (b b' : Books) : Type 0 where
   pub onward : b.time ≤ b'.time
-  pub least : All (λ r. b'.time ≤ r.start) b'.waiting
+  pub least : AllByRecursion (λ r. b'.time ≤ r.start) b'.waiting
 
 -- The same requests wait: virtual time stays where it is, or nothing waits. (`Shuffled` lists have the same elements, in any order.)
 pub record Calm (b b' : Books) : Type 0 where

@@ -93,7 +93,7 @@ pub fn hand_over<C: Card>(
     grant: Grant,
     command: Command,
 ) -> Result<(), CardFault>
-    ensures submitted { Submitted depth (held card.old) command.ticket command.sectors result (held card.new) }
+    ensures submitted { Submitted C.depth (C.held card.old) command.ticket command.sectors result (C.held card.new) }
     ensures granted { slots.new.granted ≡ slots.old.granted - 1 }
     ensures sent { MatchResult result (λ _. slots.new.granted + slots.new.sent ≡ slots.old.granted + slots.old.sent) (λ _. slots.new.sent ≡ slots.old.sent) }
     ensures limit { slots.new.limit ≡ slots.old.limit }

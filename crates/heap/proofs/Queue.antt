@@ -1,6 +1,6 @@
 -- What the heap's answers say of its records as a list in order, where all of a record's numbers decide. Assumes nothing.
 use Rattle.std.proofs.Common.{◌≡◌, ℕ, suc, ◌<◌, Bool, List, [], ◌∷◌, length, get_or, take, Some, None, Option, sym, refl, ap, ◌∙◌, subst, arith}
-use Rattle.std.specs.List.{AllByRecursion as All}
+use Rattle.std.specs.List.{AllByRecursion}
 use Rattle.std.proofs.ByRecursion.{all_shuffled}
 use Rattle.heap.specs.Heaps.{Heaped, Least, Took, Popped, Peeked}
 use Rattle.std.proofs.lemmas.List.{length-take}
@@ -13,13 +13,13 @@ module _ {X : Type 0} (by : X → List ℕ) (tell : (x y : X) → by x ≡ by y 
   abbrev order : X → X → Bool
   order x y = upto (by x) (by y)
 
-  all-least : (x : X) (ys : List X) → Least order x ys → All (First by x) ys
+  all-least : (x : X) (ys : List X) → Least order x ys → AllByRecursion (First by x) ys
   unfolding Least
   all-least x [] h = tt
   all-least x (y ∷ ys) h = (h 0 y (omega arith), all-least x ys (λ k d l. h (suc k) d (omega (arith, l))))
 
   -- what is at or before all comes first
-  first-sorted : (x : X) (ys : List X) → All (First by x) ys → sorted by (x ∷ ys) ≡ x ∷ sorted by ys
+  first-sorted : (x : X) (ys : List X) → AllByRecursion (First by x) ys → sorted by (x ∷ ys) ≡ x ∷ sorted by ys
   first-sorted x ys h = insert-first by x (sorted by ys) (all-sorted by (First by x) ys h)
 
   pub pushed-sorted : (xs ys : List X) (n m : ℕ) (x : X) → Took order xs n x ys m → sorted by (take m ys) ≡ insert by x (sorted by (take n xs))
@@ -36,6 +36,6 @@ module _ {X : Type 0} (by : X → List ℕ) (tell : (x y : X) → by x ≡ by y 
   peeked-head xs n None h o = sym (ap (λ l. head_of (sorted by l)) (take_none n xs h))
   peeked-head xs n (Some x) h o = go (take n xs) (omega (arith, h.some, length-take n xs)) h.first (all-least x (take n xs) (h.least o))
     where
-      go : (zs : List X) → 0 < length zs → ((d : X) → x ≡ get_or zs 0 d) → All (First by x) zs → Some x ≡ head_of (sorted by zs)
+      go : (zs : List X) → 0 < length zs → ((d : X) → x ≡ get_or zs 0 d) → AllByRecursion (First by x) zs → Some x ≡ head_of (sorted by zs)
       go [] l f a = absurd (omega (arith, l))
-      go (z ∷ zs) l f a = ap Some (f z) ∙ sym (ap head_of (first-sorted z zs (subst (λ y. All (First by y) zs) (f z) a.1)))
+      go (z ∷ zs) l f a = ap Some (f z) ∙ sym (ap head_of (first-sorted z zs (subst (λ y. AllByRecursion (First by y) zs) (f z) a.1)))

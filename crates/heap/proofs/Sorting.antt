@@ -1,6 +1,6 @@
 -- Sorting keeps the records and puts them in order, and lists with the same records sort to the same list. Assumes nothing.
 use Rattle.std.proofs.Common.{◌≡◌, ℕ, suc, ◌+◌, Bool, true, false, cond, ◌&&◌, eqb, ltb, List, [], ◌∷◌, length, sum_by, sym, refl, ap, ◌∙◌, ⊎_elim, arith}
-use Rattle.std.specs.List.{AllByRecursion as All}
+use Rattle.std.specs.List.{AllByRecursion}
 use Rattle.std.specs.List.Sorted.{IsPermutation}
 use Rattle.std.proofs.lemmas.List.Sums.{sum_by-cons}
 use Rattle.std.proofs.lemmas.List.Sorted.{sum_by-IsPermutation, IsPermutation-refl, IsPermutation-trans, IsPermutation-cons, IsPermutation-swap}
@@ -65,15 +65,15 @@ module _ {X : Type 0} (by : X → List ℕ) where
   length-sorted [] = refl
   length-sorted (x ∷ xs) = length-insert x (sorted by xs) ∙ ap suc (length-sorted xs)
 
-  pub all_insert : (P : X → Type 0) (x : X) (ys : List X) → P x → All P ys → All P (insert by x ys)
+  pub all_insert : (P : X → Type 0) (x : X) (ys : List X) → P x → AllByRecursion P ys → AllByRecursion P (insert by x ys)
   all_insert P x [] p q = (p, tt)
-  all_insert P x (y ∷ ys) p q = cond_both (upto (by x) (by y)) (x ∷ y ∷ ys) (y ∷ insert by x ys) (All P) (λ _. (p, q)) (λ _. (q.0, all_insert P x ys p q.1))
+  all_insert P x (y ∷ ys) p q = cond_both (upto (by x) (by y)) (x ∷ y ∷ ys) (y ∷ insert by x ys) (AllByRecursion P) (λ _. (p, q)) (λ _. (q.0, all_insert P x ys p q.1))
 
-  pub all-sorted : (P : X → Type 0) (xs : List X) → All P xs → All P (sorted by xs)
+  pub all-sorted : (P : X → Type 0) (xs : List X) → AllByRecursion P xs → AllByRecursion P (sorted by xs)
   all-sorted P [] h = tt
   all-sorted P (x ∷ xs) h = all_insert P x (sorted by xs) h.0 (all-sorted P xs h.1)
 
-  after : (x y : X) (ys : List X) → First by x y → All (First by y) ys → All (First by x) ys
+  after : (x y : X) (ys : List X) → First by x y → AllByRecursion (First by y) ys → AllByRecursion (First by x) ys
   after x y [] f h = tt
   after x y (z ∷ zs) f h = (upto_chain (by x) (by y) (by z) f h.0, after x y zs f h.1)
 
@@ -98,12 +98,12 @@ module _ {X : Type 0} (by : X → List ℕ) where
   shuffled-sorted (x ∷ xs) = IsPermutation-trans _ _ _ (IsPermutation-cons x xs (sorted by xs) (shuffled-sorted xs)) (shuffled-insert x (sorted by xs))
 
   -- what is at or before all goes to the front
-  pub insert-first : (x : X) (ys : List X) → All (First by x) ys → insert by x ys ≡ x ∷ ys
+  pub insert-first : (x : X) (ys : List X) → AllByRecursion (First by x) ys → insert by x ys ≡ x ∷ ys
   insert-first x [] h = refl
   insert-first x (y ∷ ys) h = cond-true (upto (by x) (by y)) _ _ h.0
 
   -- how many come before y: none of those that y is at or before
-  pub none_before : (y : X) (ys : List X) → All (First by y) ys → sum_by (λ z. cond (upto (by y) (by z)) 0 1) ys ≡ 0
+  pub none_before : (y : X) (ys : List X) → AllByRecursion (First by y) ys → sum_by (λ z. cond (upto (by y) (by z)) 0 1) ys ≡ 0
   none_before y [] h = refl
   none_before y (z ∷ zs) h = omega (arith, sum_by-cons (λ z. cond (upto (by y) (by z)) 0 1) z zs, none_before y zs h.1, cond-true {A = ℕ} (upto (by y) (by z)) 0 1 h.0)
 

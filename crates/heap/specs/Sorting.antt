@@ -1,6 +1,6 @@
 -- Lists of records in order. `by` lists a record's numbers, the most important first.
 use Rattle.std.specs.Prelude.{◌≡◌, ℕ, Bool, true, false, cond, ◌&&◌, ◌||◌, List, [], ◌∷◌, Some, None, Option, ◌==◌, nat_lt}
-use Rattle.std.specs.List.{AllByRecursion as All}
+use Rattle.std.specs.List.{AllByRecursion}
 use Rattle.std.specs.List.Sorted.{IsPermutation}
 
 -- the order of a dictionary: whether the first list of numbers is at or before the second
@@ -37,7 +37,7 @@ module _ {X : Type 0} (by : X → List ℕ) where
   -- each record is at or before all that follow
   abbrev pub Ordered : List X → Type 0
   Ordered [] = Unit {0}
-  Ordered (x ∷ xs) = All (First x) xs × Ordered xs
+  Ordered (x ∷ xs) = AllByRecursion (First x) xs × Ordered xs
 
   -- ys has the records of xs, each as often, in order
   pub record Sorts (xs ys : List X) : Type 0 where

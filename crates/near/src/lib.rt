@@ -68,7 +68,8 @@ pub fn nearest(lane: u32, ready: u8) -> Option<u32>
     choose(row, ready)
 }
 
-/// The table is the rule: 0 for the lane itself, 1 within the same four lanes, and else 2.
+/// The table, which is the code's, is the rule: 0 for the lane itself, 1 within the same four lanes, and else 2.
 pub fn distances_stand()
-    ensures { Distances }
+    ensures rule { Distances }
+    ensures code { DISTANCE ≡ table }
 {}

@@ -1,5 +1,5 @@
 use Rattle.near.proofs.Tables.{distances}
 use Rattle.near.proofs.distances_stand.Goals as goal
 
-pub returns : goal.returns
-returns c = distances
+pub returns-clause-rule : goal.returns-clause-rule
+returns-clause-rule c = distances

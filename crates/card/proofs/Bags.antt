@@ -1,7 +1,7 @@
 -- What the same commands, and one command more, have in common: length, tallies, sums, and what holds of all.
 use Rattle.std.proofs.Common.{◌≡◌, ℕ, ◌+◌, ◌≤◌, true, false, cond, ◌||◌, eqb, ltb, List, [], ◌∷◌, ◌++◌, length, is_some, is_ok, Some, None, Ok, Err, sum_by, Option, Result, sym, refl, ap, ◌∙◌, subst, zero-add, arith, ltb-false, ltb-true, lt-ltb}
 use Rattle.std.specs.List.Sorted.{IsPermutation}
-use Rattle.std.specs.List.{AllByRecursion as All}
+use Rattle.std.specs.List.{AllByRecursion}
 use Rattle.std.proofs.lemmas.List.Sorted.{IsPermutation-refl, IsPermutation-sym, IsPermutation-trans, IsPermutation-cons, IsPermutation-swap, length_permutation, sum_by-IsPermutation}
 use Rattle.std.proofs.ByRecursion.{all_shuffled}
 use Rattle.std.proofs.lemmas.List.Sums.{sum_by-cons}
@@ -68,14 +68,14 @@ same_sum g xs ys h = sum_by-IsPermutation g xs ys h
 pub more_sum : (g : Command → ℕ) (c : Command) (few many : List Command) → More c few many → sum_by g many ≡ g c + sum_by g few
 more_sum g c few many h = sum_by-IsPermutation g (c ∷ few) many h ∙ sum_by-cons g c few
 
-pub same_all : (P : Command → Type 0) (xs ys : List Command) → Same xs ys → All P xs → All P ys
+pub same_all : (P : Command → Type 0) (xs ys : List Command) → Same xs ys → AllByRecursion P xs → AllByRecursion P ys
 same_all P xs ys h all = all_shuffled P xs ys h all
 
-pub more_all : (P : Command → Type 0) (c : Command) (few many : List Command) → More c few many → P c → All P few → All P many
+pub more_all : (P : Command → Type 0) (c : Command) (few many : List Command) → More c few many → P c → AllByRecursion P few → AllByRecursion P many
 more_all P c few many h p all = all_shuffled P (c ∷ few) many h (p, all)
 
 -- what holds of all of many holds of the one more, and of the few
-pub less_all : (P : Command → Type 0) (c : Command) (few many : List Command) → More c few many → All P many → P c × All P few
+pub less_all : (P : Command → Type 0) (c : Command) (few many : List Command) → More c few many → AllByRecursion P many → P c × AllByRecursion P few
 less_all P c few many h all = all_shuffled P many (c ∷ few) (IsPermutation-sym (c ∷ few) many h) all
 
 pub tally-sum : (t : ℕ) (cs : List Command) → tally t cs ≡ sum_by (λ c. cond (eqb c.ticket t) 1 0) cs

@@ -1,10 +1,10 @@
 -- What every element passes, each does; and one more element that passes.
-use Rattle.std.proofs.Common.{◌≡◌, ℕ, zero, suc, ◌+◌, ◌<◌, ◌≤◌, Bool, true, cond, ◌&&◌, ltb, List, [], ◌∷◌, ◌++◌, length, get_or, take, set, Some, None, sym, refl, ap, ◌∙◌, arith}
-use Rattle.std.proofs.lemmas.List.{length-take-le, take_more_set}
+use Rattle.std.proofs.Common.{◌≡◌, ℕ, zero, suc, ◌+◌, ◌<◌, ◌≤◌, Bool, true, ◌&&◌, ltb, List, [], ◌∷◌, ◌++◌, length, get_or, take, set, Some, None, refl, arith}
+use Rattle.std.proofs.lemmas.List.{take_more_set}
 use Rattle.std.proofs.lemmas.Bool.{and_parts, and_from, cond-true, leb-true, le-leb, lt-ltb}
 use Rattle.charge.specs.Charge.{within}
 use Rattle.sheet.specs.declared.flow.Flow.{Flow}
-use Rattle.sheet.specs.Ranges.{all_of, flow_fits, lane_fits}
+use Rattle.sheet.specs.Ranges.{all_of, flow_fits}
 use Rattle.sheet.specs.Sheets.{Content, with_flow, with_lane}
 
 pub all_of_at : {A : Type 0} (p : A → Bool) (xs : List A) (i : ℕ) (d : A) → all_of p xs ≡ true → i < length xs → p (get_or xs i d) ≡ true

@@ -1,5 +1,5 @@
 -- What a share sheet says: the flows with their shares, the lanes with their room, D and T.
-use Rattle.std.specs.Prelude.{◌≡◌, ℕ, ◌<◌, ◌≤◌, Bool, true, cond, ◌&&◌, List, [], ◌∷◌, ◌++◌, length, take, Some, None, Option, Result, MatchResult, nat_le, nat_lt, slice_index, slice_index_or}
+use Rattle.std.specs.Prelude.{◌≡◌, ℕ, ◌<◌, ◌≤◌, true, cond, ◌&&◌, List, [], ◌∷◌, ◌++◌, length, take, Some, None, Option, Result, MatchResult, nat_le, nat_lt, slice_index, slice_index_or}
 use Rattle.charge.specs.Charge.{within, charge_of}
 use Rattle.sheet.specs.declared.flow.Flow.{Flow}
 use Rattle.sheet.specs.declared.shape.Sheet.{Sheet}

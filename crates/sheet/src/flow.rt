@@ -1,6 +1,6 @@
 // A flow is one sensor's stream of requests.
-ghost use Rattle.std.specs.Prelude.{◌≡◌, Decides, nat_eq};
-ghost use Rattle.std.specs.Ordering.{on, eq_of_both};
+ghost use Rattle.std.specs.Prelude.{◌≡◌, Decides};
+ghost use Rattle.sheet.specs.Same.{same_flow};
 ghost use Rattle.std.specs.Cmp.Rules.{comparing};
 ghost use Rattle.std.proofs.Common.{rules};
 ghost use Rattle.std.specs.Cmp as Keys;
@@ -13,11 +13,14 @@ pub struct Flow {
 }
 
 impl PartialEq for Flow {
-    ghost eq = { eq_of_both (on (λ v. v.weight) nat_eq) (on (λ v. v.longest) nat_eq) };
+    ghost eq = { same_flow };
 
     ghost laws = { Keys.partial_equiv_from_equiv (Prim.search (comparing, rules)) };
 
-    fn eq(&self, other: &Flow) -> bool {
+    fn eq(&self, other: &Flow) -> bool
+        ensures value { result ≡ same_flow self.now other.now }
+        ensures decides { Decides result (self.now ≡ other.now) }
+    {
         self.weight == other.weight && self.longest == other.longest
     }
 }

@@ -1,4 +1,6 @@
 // A share sheet: which flows and lanes there are, each flow's share of the card, each lane's room, and the two parameters D and T.
+#![tactic(auto)]
+
 pub mod build;
 pub mod flow;
 pub mod looks;

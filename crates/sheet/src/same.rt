@@ -1,8 +1,9 @@
 // Two sheets are equal if they say the same.
 ghost use Rattle.std.specs.Prelude.{◌≡◌, Decides};
+ghost use Rattle.sheet.specs.Same.{same_sheet};
 ghost use Rattle.sheet.specs.Sheets.{content_of};
 ghost use Rattle.std.specs.Cmp.Rules.{comparing};
-ghost use Rattle.std.proofs.Common.{rules, arith};
+ghost use Rattle.std.proofs.Common.{rules};
 ghost use Rattle.std.specs.Cmp as Keys;
 
 use crate::shape::Sheet;
@@ -22,11 +23,14 @@ fn same_lanes(x: &Sheet, y: &Sheet) -> bool
 }
 
 impl PartialEq for Sheet {
-    ghost equals = { λ x y r. Decides r (content_of x ≡ content_of y) };
+    ghost eq = { same_sheet };
 
-    ghost laws = { Keys.partial_equiv_from_equiv (first_of (Prim.search (comparing, rules), Prim.grind (arith, Self.row.coded.inj))) };
+    ghost laws = { Keys.partial_equiv_from_equiv (Prim.search (comparing, rules) depth 9) };
 
-    fn eq(&self, other: &Sheet) -> bool {
+    fn eq(&self, other: &Sheet) -> bool
+        ensures value { result ≡ same_sheet self.now other.now }
+        ensures decides { Decides result (content_of self.now ≡ content_of other.now) }
+    {
         if !same_flows(self, other) || !same_lanes(self, other) {
             return false;
         }
@@ -35,5 +39,5 @@ impl PartialEq for Sheet {
 }
 
 impl Eq for Sheet {
-    ghost laws = { first_of (Prim.search (comparing, rules), Prim.grind (arith, Self.row.coded.inj)) };
+    ghost laws = { Prim.search (comparing, rules) depth 9 };
 }

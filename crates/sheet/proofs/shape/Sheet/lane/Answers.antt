@@ -1,4 +1,4 @@
-use Rattle.std.proofs.Common.{◌≡◌, ◌<◌, true, length, get_or, take, sym, subst, arith}
+use Rattle.std.proofs.Common.{◌≡◌, ◌<◌, true, length, take, sym, subst, arith}
 use Rattle.std.proofs.lemmas.List.{length-take, get_or-take}
 use Rattle.sheet.specs.Ranges.{lane_fits}
 use Rattle.sheet.proofs.Fits.{all_of_at, within_true}

@@ -5,6 +5,7 @@ use Rattle.std.proofs.lemmas.List.Sums.{fold_push}
 use Rattle.std.proofs.lemmas.List.Sorted.{IsPermutation-refl}
 use Rattle.sheet.specs.Sheets.{Content, content_of, blank}
 use Rattle.sheet.specs.declared.shape.Sheet.{Sheet}
+use Rattle.card.specs.declared.Card.{Ghosts}
 use Rattle.card.specs.declared.Command.{Command}
 use Rattle.shares.specs.Events as share
 use Rattle.shares.specs.Steps as step
@@ -38,19 +39,19 @@ sheet_after o (share.sent m) = o
 sheet_after o (share.finished m) = o
 sheet_after o share.nothing = o
 
-note-sheet : (t : share.Seen) (e : share.Event) → (share.note t e).sheet ≡ sheet_after t.sheet e
-note-sheet t (share.loaded s) = refl
-note-sheet t (share.arrived r) = refl
-note-sheet t (share.sent m) = refl
-note-sheet t (share.finished m) = refl
-note-sheet t share.nothing = refl
+note_sheet : (t : share.Seen) (e : share.Event) → (share.note t e).sheet ≡ sheet_after t.sheet e
+note_sheet t (share.loaded s) = refl
+note_sheet t (share.arrived r) = refl
+note_sheet t (share.sent m) = refl
+note_sheet t (share.finished m) = refl
+note_sheet t share.nothing = refl
 
 -- one entry more
 pub after_push : (log : List Entry) (e : Entry) → share.seen (map event (log ++ e ∷ [])) ≡ share.note (share.seen (map event log)) (event e)
 after_push log e = ap share.seen (map_push event log e) ∙ fold_push share.note share.unseen (map event log) (event e)
 
 pub sheet_push : (log : List Entry) (e : Entry) → (share.seen (map event (log ++ e ∷ []))).sheet ≡ sheet_after (share.seen (map event log)).sheet (event e)
-sheet_push log e = ap (λ (t : share.Seen). t.sheet) (after_push log e) ∙ note-sheet (share.seen (map event log)) (event e)
+sheet_push log e = ap (λ (t : share.Seen). t.sheet) (after_push log e) ∙ note_sheet (share.seen (map event log)) (event e)
 
 -- the law's books, whatever sheet is in force
 abbrev pub bare : Option share.Sheet → State → step.Books
@@ -111,17 +112,17 @@ sent_sheet o (Ok NoSlot) = refl
 sent_sheet o (Ok (Sent t f k)) = refl
 sent_sheet o (Err e) = refl
 
-ended-told : (c : Call) (r : Result Reaping Refusal) → told c (Reaped r) ≡ finished_by r
-ended-told c (Ok (Finished t f k status)) = refl
-ended-told c (Ok NotYet) = refl
-ended-told c (Ok Idle) = refl
-ended-told c (Err e) = refl
+ended_told : (c : Call) (r : Result Reaping Refusal) → told c (Reaped r) ≡ finished_by r
+ended_told c (Ok (Finished t f k status)) = refl
+ended_told c (Ok NotYet) = refl
+ended_told c (Ok Idle) = refl
+ended_told c (Err e) = refl
 
-ended-sheet : (o : Option share.Sheet) (r : Result Reaping Refusal) → sheet_after o (finished_by r) ≡ o
-ended-sheet o (Ok (Finished t f k status)) = refl
-ended-sheet o (Ok NotYet) = refl
-ended-sheet o (Ok Idle) = refl
-ended-sheet o (Err e) = refl
+ended_sheet : (o : Option share.Sheet) (r : Result Reaping Refusal) → sheet_after o (finished_by r) ≡ o
+ended_sheet o (Ok (Finished t f k status)) = refl
+ended_sheet o (Ok NotYet) = refl
+ended_sheet o (Ok Idle) = refl
+ended_sheet o (Err e) = refl
 
 send_moves : (call : Call) (s : State) (o : Outcome) → step.Step (books_of s) (sent_by o.says) (books_of o.books) → o.books.sheet ≡ s.sheet → MovesSo s (told call (Moved o.says)) o.books
 send_moves call s o st sheet =
@@ -129,8 +130,8 @@ send_moves call s o st sheet =
 
 reap_moves : (s : State) (done : Option (ℕ × ℕ)) → Sound s → MovesSo s (told Reap (Reaped (reap_rule s done).0)) (reap_rule s done).1
 reap_moves s done k =
-    subst (λ e. MovesSo s e (reap_rule s done).1) (sym (ended-told Reap (reap_rule s done).0))
-    (reaps_step_lem s done k, ended-sheet (Some (shares_of s.sheet)) (reap_rule s done).0 ∙ ap (λ x. Some (shares_of x)) (sym (reap_sheet s done)))
+    subst (λ e. MovesSo s e (reap_rule s done).1) (sym (ended_told Reap (reap_rule s done).0))
+    (reaps_step_lem s done k, ended_sheet (Some (shares_of s.sheet)) (reap_rule s done).0 ∙ ap (λ x. Some (shares_of x)) (sym (reap_sheet s done)))
 
 -- before the first load: nothing is told, or a sheet is loaded
 abbrev pub First : share.Event → State → Type 0
@@ -161,12 +162,12 @@ At o s c = ((o ≡ None) × (s ≡ empty blank) × (c ≡ bare None (empty blank
 abbrev Next : Option share.Sheet → share.Event → State → step.Books → Type 0
 Next o e s' c = (c' : step.Books) × step.Step c e c' × At (sheet_after o e) s' c'
 
-module _ {C : Type 0} (depth : ℕ) (held : C → List Command) (finishes : C → Option (ℕ × ℕ) → C → Type 0) where
-  moves : (s s' : State) (c c' : C) (call : Call) (a : Answer) → Sound s → Fair s → Step depth held finishes s c call a s' c' → MovesSo s (told call a) s'
-  moves s s' c c' (Load sheet) a k fair st = to s (Load sheet) st.0 st.1 (load_moves s sheet (load_rule depth (held c) s (content_of sheet)).0 (load_rule depth (held c) s (content_of sheet)).1 (loaded s sheet (Some (shares_of s.sheet)) depth (held c)))
+module _ {C : Type 0} (cards : Ghosts C) where
+  moves : (s s' : State) (c c' : C) (call : Call) (a : Answer) → Sound s → Fair s → Step cards.depth cards.held cards.finishes s c call a s' c' → MovesSo s (told call a) s'
+  moves s s' c c' (Load sheet) a k fair st = to s (Load sheet) st.0 st.1 (load_moves s sheet (load_rule cards.depth (cards.held c) s (content_of sheet)).0 (load_rule cards.depth (cards.held c) s (content_of sheet)).1 (loaded s sheet (Some (shares_of s.sheet)) cards.depth (cards.held c)))
   moves s s' c c' (Arrive f l n) a k fair st = to s (Arrive f l n) st.0 st.1 (arrive_moves s f l n (arrive_rule s f l n).0 (arrive_rule s f l n).1 (arrivals_step_lem s f l n k fair) (arrives_so s f l n))
-  moves s s' c c' (Send l) a k fair st = to s (Send l) st.0 st.1 (send_moves (Send l) s (send_rule depth (held c) s l) (sends_step depth (held c) s l k fair) (send_sheet depth (held c) s l))
-  moves s s' c c' (Kick l) a k fair st = to s (Kick l) st.0 st.1 (send_moves (Kick l) s (kick_rule depth (held c) s l) (kicks_step_lem depth (held c) s l k fair) (kick_sheet depth (held c) s l))
+  moves s s' c c' (Send l) a k fair st = to s (Send l) st.0 st.1 (send_moves (Send l) s (send_rule cards.depth (cards.held c) s l) (sends_step cards.depth (cards.held c) s l k fair) (send_sheet cards.depth (cards.held c) s l))
+  moves s s' c c' (Kick l) a k fair st = to s (Kick l) st.0 st.1 (send_moves (Kick l) s (kick_rule cards.depth (cards.held c) s l) (kicks_step_lem cards.depth (cards.held c) s l k fair) (kick_sheet cards.depth (cards.held c) s l))
   moves s s' c c' Reap a k fair st = to s Reap st.3 st.4 (reap_moves s st.0 k)
   moves s s' c c' Time a k fair st = to s Time st.0 st.1 (still s s refl)
   moves s s' c c' Ready a k fair st = to s Ready st.0 st.1 (still s s refl)
@@ -175,26 +176,26 @@ module _ {C : Type 0} (depth : ℕ) (held : C → List Command) (finishes : C �
   quiet : (call : Call) {a a₀ : Answer} {s' s₀ : State} → a ≡ a₀ → s' ≡ s₀ → (told call a₀ ≡ share.nothing) × (s₀ ≡ empty blank) → First (told call a) s'
   quiet call p q h = inl (ap (told call) p ∙ h.0, q ∙ h.1)
 
-  firsts : (s' : State) (c c' : C) (call : Call) (a : Answer) → Step depth held finishes (empty blank) c call a s' c' → First (told call a) s'
+  firsts : (s' : State) (c c' : C) (call : Call) (a : Answer) → Step cards.depth cards.held cards.finishes (empty blank) c call a s' c' → First (told call a) s'
   firsts s' c c' (Load sheet) a st =
-      let v = load_rule depth (held c) (empty blank) (content_of sheet) in
-      subst (λ x. First (told (Load sheet) x) s') (sym st.0) (subst (λ t. First (told (Load sheet) (Loaded v.0)) t) (sym st.1) (load_first sheet v.0 v.1 (loaded (empty blank) sheet None depth (held c))))
+      let v = load_rule cards.depth (cards.held c) (empty blank) (content_of sheet) in
+      subst (λ x. First (told (Load sheet) x) s') (sym st.0) (subst (λ t. First (told (Load sheet) (Loaded v.0)) t) (sym st.1) (load_first sheet v.0 v.1 (loaded (empty blank) sheet None cards.depth (cards.held c))))
   firsts s' c c' (Arrive f l n) a st = quiet (Arrive f l n) st.0 st.1 (arrive_quiet f l n)
-  firsts s' c c' (Send l) a st = quiet (Send l) st.0 st.1 (send_quiet depth (held c) l)
-  firsts s' c c' (Kick l) a st = quiet (Kick l) st.0 st.1 (kick_quiet depth (held c) l)
+  firsts s' c c' (Send l) a st = quiet (Send l) st.0 st.1 (send_quiet cards.depth (cards.held c) l)
+  firsts s' c c' (Kick l) a st = quiet (Kick l) st.0 st.1 (kick_quiet cards.depth (cards.held c) l)
   firsts s' c c' Reap a st = quiet Reap st.3 st.4 (idle st.0)
   firsts s' c c' Time a st = quiet Time st.0 st.1 (refl, refl)
   firsts s' c c' Ready a st = quiet Ready st.0 st.1 (refl, refl)
   firsts s' c c' (Flow f) a st = quiet (Flow f) st.0 st.1 (refl, refl)
 
-  next : (o : Option share.Sheet) (b : Board C) (call : Call) (answer : Answer) (b' : Board C) (c : step.Books) → At o (state_of b.books) c → Did depth held finishes b call answer b' → Next o (told call answer) (state_of b'.books) c
+  next : (o : Option share.Sheet) (b : Board C cards) (call : Call) (answer : Answer) (b' : Board C cards) (c : step.Books) → At o (state_of b.books) c → Did cards b call answer b' → Next o (told call answer) (state_of b'.books) c
   next o b call answer b' c at did =
       let e = told call answer in
       let s = state_of b.books in
       let s' = state_of b'.books in
       ⊎_elim
       (λ (new : (o ≡ None) × (s ≡ empty blank) × (c ≡ bare None (empty blank))).
-      let st = subst (λ t. Step depth held finishes t b.card call answer s' b'.card) new.1 did.step in
+      let st = subst (λ t. Step cards.depth cards.held cards.finishes t b.card call answer s' b'.card) new.1 did.step in
       subst (λ p. (c' : step.Books) × step.Step c e c' × At (sheet_after p e) s' c') (sym new.0)
       (subst (λ q. (c' : step.Books) × step.Step q e c' × At (sheet_after None e) s' c') (sym new.2)
       (⊎_elim
@@ -209,7 +210,7 @@ module _ {C : Type 0} (depth : ℕ) (held : C → List Command) (finishes : C �
       at
 
   -- a flight is a run of the law's books
-  pub tied : {first : Board C} {log : List Entry} {b : Board C} → state_of first.books ≡ empty blank → Run depth held finishes first log b
+  pub tied : {first : Board C cards} {log : List Entry} {b : Board C cards} → state_of first.books ≡ empty blank → Run cards first log b
       → (c : step.Books) × step.Runs (bare None (empty blank)) (map event log) c × At (share.seen (map event log)).sheet (state_of b.books) c
   tied new start = (bare None (empty blank), step.stop, inl (refl, new, refl))
   tied new (more {log = log} {b = b} {b' = b'} call answer run did) =

@@ -8,6 +8,7 @@ use Rattle.sheet.specs.declared.shape.Sheet.{Sheet}
 use Rattle.heap.proofs.Sorting.{sumBy-insert}
 use Rattle.card.specs.Commands.{command, Finished}
 use Rattle.card.specs.declared.CardFault.{CardFault}
+use Rattle.card.specs.declared.Card.{Ghosts}
 use Rattle.card.specs.declared.Command.{Command}
 use Rattle.card.proofs.Bags.{same_sum, more_sum}
 use Rattle.shares.specs.Events as share
@@ -118,9 +119,9 @@ no_length_in t (r ∷ rs) e =
 
 -- the card finished the command t, n; q is the request with that ticket
 module _ {depth : ℕ} {s : State} {before : List Command} (after : List Command) (k : Tied depth s before) (once : (t : ℕ) → sum_by (ticket_is t) s.in_card ≤ 1) where
-  finished-tied : (t n : ℕ) (q : Request) → found t s.in_card ≡ Some q → ((g : Command → ℕ) → sum_by g before ≡ g (command t n) + sum_by g after)
+  finished_tied : (t n : ℕ) (q : Request) → found t s.in_card ≡ Some q → ((g : Command → ℕ) → sum_by g before ≡ g (command t n) + sum_by g after)
       → (g : Command → ℕ) → sum_by g after ≡ sum_by (λ r. g (commanded r)) (without t s.in_card)
-  finished-tied t n q e less g =
+  finished_tied t n q e less g =
       let p = found_sums t s.in_card q e (once t) in
       let it = eq-eqb t t refl in
       let q-it = eq-eqb q.ticket t p.0 in
@@ -151,7 +152,7 @@ reap_tied depth s before after (Some d) once k h = go (found d.0 s.in_card) refl
 
     go : (o : Option Request) → found d.0 s.in_card ≡ o → Tied depth (reap_found s d.0 d.1 o).1 after
     go None e = absurd (strange after k once d.0 h.0 e less)
-    go (Some q) e = record { same = finished-tied after k once d.0 h.0 q e less; deep = k.deep }
+    go (Some q) e = record { same = finished_tied after k once d.0 h.0 q e less; deep = k.deep }
 
 -- ---- a load
 
@@ -178,48 +179,48 @@ load_tie depth held s sheet o (Err e) t h k = subst (λ x. Tie depth o x held) (
 stays_tied : (depth : ℕ) (s s' : State) (held : List Command) → s'.in_card ≡ s.in_card → s'.sheet ≡ s.sheet → Tied depth s held → Tied depth s' held
 stays_tied depth s s' held c sh k = record { same = λ g. k.same g ∙ ap (sum_by (λ (r : Request). g (commanded r))) (sym c); deep = subst (λ (x : Content). x.slots ≤ depth) (sym sh) k.deep }
 
-module _ {C : Type 0} (depth : ℕ) (held : C → List Command) (finishes : C → Option (ℕ × ℕ) → C → Type 0) where
+module _ {C : Type 0} (cards : Ghosts C) where
   -- to a card, books and an answer that are those of the rule; before the first load nothing is told
-  tie-to : (o : Option share.Sheet) (call : Call) {a a₀ : Answer} {s s' s₀ : State} {hs hs' : List Command} → a ≡ a₀ → s' ≡ s₀
-      → (s ≡ empty blank → (told call a₀ ≡ share.nothing) × (s₀ ≡ empty blank)) → (Tied depth s hs → Tied depth s₀ hs') → Tie depth o s hs → Tie depth (sheet_after o (told call a)) s' hs'
-  tie-to o call {a} {a₀} {s} {s'} {s₀} {hs} {hs'} p q quiet keeps k =
+  tie_to : (o : Option share.Sheet) (call : Call) {a a₀ : Answer} {s s' s₀ : State} {hs hs' : List Command} → a ≡ a₀ → s' ≡ s₀
+      → (s ≡ empty blank → (told call a₀ ≡ share.nothing) × (s₀ ≡ empty blank)) → (Tied cards.depth s hs → Tied cards.depth s₀ hs') → Tie cards.depth o s hs → Tie cards.depth (sheet_after o (told call a)) s' hs'
+  tie_to o call {a} {a₀} {s} {s'} {s₀} {hs} {hs'} p q quiet keeps k =
       ⊎_elim
       (λ (new : (o ≡ None) × (s ≡ empty blank)). let h = quiet new.1 in inl (ap (sheet_after o) (ap (told call) p ∙ h.0) ∙ new.0, q ∙ h.1))
-      (λ tied. inr (subst (λ t. Tied depth t hs') (sym q) (keeps tied)))
+      (λ tied. inr (subst (λ t. Tied cards.depth t hs') (sym q) (keeps tied)))
       k
 
-  tie-step : (o : Option share.Sheet) (s s' : State) (c c' : C) (call : Call) (a : Answer) → Sound s → Step depth held finishes s c call a s' c' → Tie depth o s (held c) → Tie depth (sheet_after o (told call a)) s' (held c')
+  tie_step : (o : Option share.Sheet) (s s' : State) (c c' : C) (call : Call) (a : Answer) → Sound s → Step cards.depth cards.held cards.finishes s c call a s' c' → Tie cards.depth o s (cards.held c) → Tie cards.depth (sheet_after o (told call a)) s' (cards.held c')
   unfolding Carries
-  tie-step o s s' c c' (Load sheet) a k st tie =
-      let v = load_rule depth (held c) s (content_of sheet) in
-      let at : Tie depth (sheet_after o (told (Load sheet) (Loaded v.0))) v.1 (held c) = load_tie depth (held c) s sheet o v.0 v.1 (load_tied depth (held c) s (content_of sheet)) tie in
-      subst (λ x. Tie depth (sheet_after o (told (Load sheet) a)) s' (held x)) (sym st.2)
-      (subst (λ x. Tie depth (sheet_after o (told (Load sheet) x)) s' (held c)) (sym st.0)
-      (subst (λ t. Tie depth (sheet_after o (told (Load sheet) (Loaded v.0))) t (held c)) (sym st.1) at))
-  tie-step o s s' c c' (Arrive f l n) a k st tie =
+  tie_step o s s' c c' (Load sheet) a k st tie =
+      let v = load_rule cards.depth (cards.held c) s (content_of sheet) in
+      let at : Tie cards.depth (sheet_after o (told (Load sheet) (Loaded v.0))) v.1 (cards.held c) = load_tie cards.depth (cards.held c) s sheet o v.0 v.1 (load_tied cards.depth (cards.held c) s (content_of sheet)) tie in
+      subst (λ x. Tie cards.depth (sheet_after o (told (Load sheet) a)) s' (cards.held x)) (sym st.2)
+      (subst (λ x. Tie cards.depth (sheet_after o (told (Load sheet) x)) s' (cards.held c)) (sym st.0)
+      (subst (λ t. Tie cards.depth (sheet_after o (told (Load sheet) (Loaded v.0))) t (cards.held c)) (sym st.1) at))
+  tie_step o s s' c c' (Arrive f l n) a k st tie =
       let same = still s f l n in
-      subst (λ x. Tie depth (sheet_after o (told (Arrive f l n) a)) s' (held x)) (sym st.2)
-      (tie-to o (Arrive f l n) st.0 st.1
+      subst (λ x. Tie cards.depth (sheet_after o (told (Arrive f l n) a)) s' (cards.held x)) (sym st.2)
+      (tie_to o (Arrive f l n) st.0 st.1
       (λ e. subst (λ t. (told (Arrive f l n) (Arrived (arrive_rule t f l n).0) ≡ share.nothing) × ((arrive_rule t f l n).1 ≡ empty blank)) (sym e) (arrive_quiet f l n))
-      (stays_tied depth s (arrive_rule s f l n).1 (held c) same.0 same.1) tie)
-  tie-step o s s' c c' (Send l) a k st tie =
-      tie-to o (Send l) st.0 st.1
-      (λ e. subst (λ t. (told (Send l) (Moved (send_rule depth (held c) t l).says) ≡ share.nothing) × ((send_rule depth (held c) t l).books ≡ empty blank)) (sym e) (send_quiet depth (held c) l))
-      (λ tied. send_carries depth depth (held c) s l (held c) (held c') tied st.2) tie
-  tie-step o s s' c c' (Kick l) a k st tie =
-      tie-to o (Kick l) st.0 st.1
-      (λ e. subst (λ t. (told (Kick l) (Moved (kick_rule depth (held c) t l).says) ≡ share.nothing) × ((kick_rule depth (held c) t l).books ≡ empty blank)) (sym e) (kick_quiet depth (held c) l))
-      (λ tied. kick_carries depth depth (held c) s l (held c) (held c') tied st.2) tie
-  tie-step o s s' c c' Reap a k st tie =
-      tie-to o Reap st.3 st.4
+      (stays_tied cards.depth s (arrive_rule s f l n).1 (cards.held c) same.0 same.1) tie)
+  tie_step o s s' c c' (Send l) a k st tie =
+      tie_to o (Send l) st.0 st.1
+      (λ e. subst (λ t. (told (Send l) (Moved (send_rule cards.depth (cards.held c) t l).says) ≡ share.nothing) × ((send_rule cards.depth (cards.held c) t l).books ≡ empty blank)) (sym e) (send_quiet cards.depth (cards.held c) l))
+      (λ tied. send_carries cards.depth cards.depth (cards.held c) s l (cards.held c) (cards.held c') tied st.2) tie
+  tie_step o s s' c c' (Kick l) a k st tie =
+      tie_to o (Kick l) st.0 st.1
+      (λ e. subst (λ t. (told (Kick l) (Moved (kick_rule cards.depth (cards.held c) t l).says) ≡ share.nothing) × ((kick_rule cards.depth (cards.held c) t l).books ≡ empty blank)) (sym e) (kick_quiet cards.depth (cards.held c) l))
+      (λ tied. kick_carries cards.depth cards.depth (cards.held c) s l (cards.held c) (cards.held c') tied st.2) tie
+  tie_step o s s' c c' Reap a k st tie =
+      tie_to o Reap st.3 st.4
       (λ e. subst (λ t. (told Reap (Reaped (reap_rule t st.0).0) ≡ share.nothing) × ((reap_rule t st.0).1 ≡ empty blank)) (sym e) (idle st.0))
-      (λ tied. reap_tied depth s (held c) (held c') st.0 (λ t. omega (arith, k.1.1.1.1.1.1.0 t)) tied st.1) tie
-  tie-step o s s' c c' Time a k st tie = subst (λ x. Tie depth (sheet_after o (told Time a)) s' (held x)) (sym st.2) (tie-to o Time st.0 st.1 (λ e. (refl, e)) (λ tied. tied) tie)
-  tie-step o s s' c c' Ready a k st tie = subst (λ x. Tie depth (sheet_after o (told Ready a)) s' (held x)) (sym st.2) (tie-to o Ready st.0 st.1 (λ e. (refl, e)) (λ tied. tied) tie)
-  tie-step o s s' c c' (Flow f) a k st tie = subst (λ x. Tie depth (sheet_after o (told (Flow f) a)) s' (held x)) (sym st.2) (tie-to o (Flow f) st.0 st.1 (λ e. (refl, e)) (λ tied. tied) tie)
+      (λ tied. reap_tied cards.depth s (cards.held c) (cards.held c') st.0 (λ t. omega (arith, k.1.1.1.1.1.1.0 t)) tied st.1) tie
+  tie_step o s s' c c' Time a k st tie = subst (λ x. Tie cards.depth (sheet_after o (told Time a)) s' (cards.held x)) (sym st.2) (tie_to o Time st.0 st.1 (λ e. (refl, e)) (λ tied. tied) tie)
+  tie_step o s s' c c' Ready a k st tie = subst (λ x. Tie cards.depth (sheet_after o (told Ready a)) s' (cards.held x)) (sym st.2) (tie_to o Ready st.0 st.1 (λ e. (refl, e)) (λ tied. tied) tie)
+  tie_step o s s' c c' (Flow f) a k st tie = subst (λ x. Tie cards.depth (sheet_after o (told (Flow f) a)) s' (cards.held x)) (sym st.2) (tie_to o (Flow f) st.0 st.1 (λ e. (refl, e)) (λ tied. tied) tie)
 
-  pub tie : {first : Board C} {log : List Entry} {b : Board C} → state_of first.books ≡ empty blank → Run depth held finishes first log b → Tie depth (share.seen (map event log)).sheet (state_of b.books) (held b.card)
+  pub tie : {first : Board C cards} {log : List Entry} {b : Board C cards} → state_of first.books ≡ empty blank → Run cards first log b → Tie cards.depth (share.seen (map event log)).sheet (state_of b.books) (cards.held b.card)
   tie new start = inl (refl, new)
   tie new (more {log = log} {b = b} {b' = b'} call answer run did) =
-      subst (λ o. Tie depth o (state_of b'.books) (held b'.card)) (sym (sheet_push log (call, answer)))
-      (tie-step (share.seen (map event log)).sheet (state_of b.books) (state_of b'.books) b.card b'.card call answer (sound b.books) did.step (tie new run))
+      subst (λ o. Tie cards.depth o (state_of b'.books) (cards.held b'.card)) (sym (sheet_push log (call, answer)))
+      (tie_step (share.seen (map event log)).sheet (state_of b.books) (state_of b'.books) b.card b'.card call answer (sound b.books) did.step (tie new run))

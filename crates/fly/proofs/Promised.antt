@@ -6,6 +6,7 @@ use Rattle.std.proofs.lemmas.List.{length-map, map_push}
 use Rattle.std.proofs.lemmas.List.Sums.{sum_by-cons}
 use Rattle.std.proofs.lemmas.List.Sorted.{length_permutation, sum_by-IsPermutation}
 use Rattle.sheet.specs.Sheets.{blank}
+use Rattle.card.specs.declared.Card.{Ghosts}
 use Rattle.card.specs.declared.Command.{Command}
 use Rattle.shares.specs.Events as share
 use Rattle.shares.specs.Steps as step
@@ -36,12 +37,12 @@ new_books : step.New (bare None (empty blank))
 new_books = record { sheet = refl; waiting = refl }
 
 -- what is known at a point where the sheet x is in force
-pub record Known {C : Type 0} (depth : ℕ) (held : C → List Command) (log : List Entry) (b : Board C) (x : share.Sheet) : Type 0 where
+pub record Known {C : Type 0} (cards : Ghosts C) (log : List Entry) (b : Board C cards) (x : share.Sheet) : Type 0 where
   pub sheet : x ≡ shares_of (state_of b.books).sheet
   pub waiting : IsPermutation (after log).waiting (waiting_of (state_of b.books).lanes)
   pub unfinished : IsPermutation (after log).unfinished (map request_of (state_of b.books).in_card)
   pub room : length (map request_of (state_of b.books).in_card) ≤ x.slots
-  pub tie : Tied depth (state_of b.books) (held b.card)
+  pub tie : Tied cards.depth (state_of b.books) (cards.held b.card)
 
 -- each answer is of its call's kind
 kind_of : {C : Type 0} (depth : ℕ) (held : C → List Command) (finishes : C → Option (ℕ × ℕ) → C → Type 0) (s : State) (c : C) (call : Call) (a : Answer) (s' : State) (c' : C) → Step depth held finishes s c call a s' c' → call_kind call ≡ answer_kind a
@@ -66,10 +67,10 @@ seconds f [] (y ∷ vs) h = absurd (omega arith)
 seconds f (x ∷ ks) [] h = absurd (omega arith)
 seconds f (x ∷ ks) (y ∷ vs) h = ap (λ l. f y ∷ l) (seconds f ks vs (omega arith))
 
-module _ {C : Type 0} (depth : ℕ) (held : C → List Command) (finishes : C → Option (ℕ × ℕ) → C → Type 0) {first : Board C} (new : state_of first.books ≡ empty blank) where
-  known : {log : List Entry} {b : Board C} → Run depth held finishes first log b → (x : share.Sheet) → (after log).sheet ≡ Some x → Known depth held log b x
+module _ {C : Type 0} (cards : Ghosts C) {first : Board C cards} (new : state_of first.books ≡ empty blank) where
+  known : {log : List Entry} {b : Board C cards} → Run cards first log b → (x : share.Sheet) → (after log).sheet ≡ Some x → Known cards log b x
   known {log} {b} run x e =
-      let t = tied depth held finishes new run in
+      let t = tied cards new run in
       let s = state_of b.books in
       let not_new : (after log).sheet ≡ None → ⊥ = λ n. let z : ◌≡◌ {A = ℕ} 0 1 = cc in omega (arith, z) in
       let old : ((after log).sheet ≡ Some (shares_of s.sheet)) × (t.0 ≡ books_of s) = ⊎_elim (λ n. absurd (not_new n.0)) (λ o. o) t.2 in
@@ -80,55 +81,55 @@ module _ {C : Type 0} (depth : ℕ) (held : C → List Command) (finishes : C �
         waiting = n.waiting (shares_of s.sheet) refl;
         unfinished = n.card (shares_of s.sheet) refl;
         room = subst (λ (y : share.Sheet). length (map request_of s.in_card) ≤ y.slots) (sym same) (n.room (shares_of s.sheet) refl);
-        tie = ⊎_elim (λ n. absurd (not_new n.0)) (λ o. o) (tie depth held finishes new run);
+        tie = ⊎_elim (λ n. absurd (not_new n.0)) (λ o. o) (tie cards new run);
       }
 
-  holds : {log : List Entry} {b : Board C} → Run depth held finishes first log b → Holds log (held b.card)
+  holds : {log : List Entry} {b : Board C cards} → Run cards first log b → Holds log (cards.held b.card)
   holds {log} {b} run x e =
       let k = known run x e in
       let rs = (state_of b.books).in_card in
-      let all : (g : Command → ℕ) → sum_by g (map command_of (after log).unfinished) ≡ sum_by g (held b.card) = λ g.
+      let all : (g : Command → ℕ) → sum_by g (map command_of (after log).unfinished) ≡ sum_by g (cards.held b.card) = λ g.
       sum_by-map command_of g (after log).unfinished
       ∙ sym (sum_by-IsPermutation (λ (r : share.Request). g (command_of r)) (after log).unfinished (map request_of rs) k.unfinished)
       ∙ sum_by-map request_of (λ (r : share.Request). g (command_of r)) rs
       ∙ sym (k.tie.same g) in
-      let shuffled = commands_from_sums (map command_of (after log).unfinished) (held b.card) all in
-      (shuffled, omega (arith, length_permutation (map command_of (after log).unfinished) (held b.card) shuffled, length-map (after log).unfinished command_of, length_permutation (after log).unfinished (map request_of rs) k.unfinished, k.room))
+      let shuffled = commands_from_sums (map command_of (after log).unfinished) (cards.held b.card) all in
+      (shuffled, omega (arith, length_permutation (map command_of (after log).unfinished) (cards.held b.card) shuffled, length-map (after log).unfinished command_of, length_permutation (after log).unfinished (map request_of rs) k.unfinished, k.room))
 
-  kicks : {log : List Entry} {b : Board C} → Run depth held finishes first log b → Kicks log
+  kicks : {log : List Entry} {b : Board C cards} → Run cards first log b → Kicks log
   kicks run before rest x l a at e there =
       let w = around run before (Kick l, a) rest at in
       let b = w.from in
       let s = state_of b.books in
       let k = known w.run x e in
       let says = w.did.step.0 in
-      let in_card_lem = length_permutation (after before).unfinished (map request_of s.in_card) k.unfinished in
+      let in_card = length_permutation (after before).unfinished (map request_of s.in_card) k.unfinished in
       let same_length = length-map s.in_card request_of in
       let waits = length_permutation (after before).waiting (waiting_of s.lanes) k.waiting in
       let slots = ap (λ (y : share.Sheet). y.slots) k.sheet in
       let lanes = ap (λ (y : share.Sheet). y.lanes) k.sheet in (
         (λ sent.
-            let h = has_sent depth (held b.card) s l (subst (λ y. IsSent (told (Kick l) y)) says sent) in
-            (omega (arith, h.1, in_card_lem, same_length, slots), omega (arith, waits, lead_waits s.lanes h.0))),
+            let h = has_sent cards.depth (cards.held b.card) s l (subst (λ y. IsSent (told (Kick l) y)) says sent) in
+            (omega (arith, h.1, in_card, same_length, slots), omega (arith, waits, lead_waits s.lanes h.0))),
         (λ can.
             subst (λ y. IsSent (told (Kick l) y)) (sym says)
-            (can_send depth (held b.card) s l (sound b.books) k.tie (omega (arith, there, lanes)) (waits_lead s.lanes (omega (arith, waits, can.1))) (omega (arith, can.0, in_card_lem, same_length, slots)))),
+            (can_send cards.depth (cards.held b.card) s l (sound b.books) k.tie (omega (arith, there, lanes)) (waits_lead s.lanes (omega (arith, waits, can.1))) (omega (arith, can.0, in_card, same_length, slots)))),
       )
 
-  kinds : {log : List Entry} {b : Board C} → Run depth held finishes first log b → map (λ (e : Entry). call_kind e.0) log ≡ map (λ (e : Entry). answer_kind e.1) log
+  kinds : {log : List Entry} {b : Board C cards} → Run cards first log b → map (λ (e : Entry). call_kind e.0) log ≡ map (λ (e : Entry). answer_kind e.1) log
   kinds start = refl
   kinds (more {log = log} {b = b} {b' = b'} call answer run did) =
       map_push (λ (e : Entry). call_kind e.0) log (call, answer)
       ∙ ap (λ ks. ks ++ call_kind call ∷ []) (kinds run)
-      ∙ ap (λ k. map (λ (e : Entry). answer_kind e.1) log ++ k ∷ []) (kind_of depth held finishes (state_of b.books) b.card call answer (state_of b'.books) b'.card did.step)
+      ∙ ap (λ k. map (λ (e : Entry). answer_kind e.1) log ++ k ∷ []) (kind_of cards.depth cards.held cards.finishes (state_of b.books) b.card call answer (state_of b'.books) b'.card did.step)
       ∙ sym (map_push (λ (e : Entry). answer_kind e.1) log (call, answer))
 
-module _ {C : Type 0} (depth : ℕ) (held : C → List Command) (finishes : C → Option (ℕ × ℕ) → C → Type 0) {first : Board C} (new : state_of first.books ≡ empty blank) where
-  pub promised : (card : C) (calls : List Call) (answers : List Answer) (b : Board C) → first.card ≡ card → length answers ≡ length calls → Run depth held finishes first (zip calls answers) b → Promise depth held finishes card calls answers b.card
-  promised card calls answers b around-card level run = record {
-    kinds = firsts call_kind calls answers level ∙ kinds depth held finishes new run ∙ sym (seconds answer_kind calls answers level);
-    reached = record { first = first; last = b; new = new; around = around-card; run = run; there = refl };
-    law = law new_books (map event (zip calls answers)) (tied depth held finishes new run).1;
-    holds = λ before rest c e r. subst (λ x. Holds before (held x)) r.there (holds depth held finishes r.new r.run);
-    kicks = kicks depth held finishes new run;
+module _ {C : Type 0} (cards : Ghosts C) {first : Board C cards} (new : state_of first.books ≡ empty blank) where
+  pub promised : (card : C) (calls : List Call) (answers : List Answer) (b : Board C cards) → first.card ≡ card → length answers ≡ length calls → Run cards first (zip calls answers) b → Promise cards card calls answers b.card
+  promised card calls answers b around_card level run = record {
+    kinds = firsts call_kind calls answers level ∙ kinds cards new run ∙ sym (seconds answer_kind calls answers level);
+    reached = record { first = first; last = b; new = new; around = around_card; run = run; there = refl };
+    law = law new_books (map event (zip calls answers)) (tied cards new run).1;
+    holds = λ before rest c e r. subst (λ x. Holds before (cards.held x)) r.there (holds cards r.new r.run);
+    kicks = kicks cards new run;
   }

@@ -2,6 +2,7 @@
 use Rattle.std.specs.Prelude.{◌≡◌, ℕ, ◌-◌, List, [], ◌∷◌, ◌++◌, Ok, Err, Option}
 use Rattle.sheet.specs.Sheets.{content_of, blank}
 use Rattle.card.specs.Commands.{Finished as Ends}
+use Rattle.card.specs.declared.Card.{Ghosts}
 use Rattle.card.specs.declared.Command.{Command}
 use Rattle.shares.specs.Events.{Event, loaded, arrived, sent, finished, nothing}
 use Rattle.books.specs.Model.{State, arrive_rule, empty, flow_rule, ready_rule}
@@ -108,19 +109,19 @@ Step depth held finishes s c Ready a s' c' = (a ≡ ReadyLanes (ready_rule s).0 
 Step depth held finishes s c (Flow f) a s' c' = (a ≡ OfFlow (flow_rule s f)) × (s' ≡ s) × (c' ≡ c)
 
 -- (a record, so that its parts are read off its type)
-pub record Did {C : Type 0} (depth : ℕ) (held : C → List Command) (finishes : C → Option (ℕ × ℕ) → C → Type 0) (b : Board C) (call : Call) (answer : Answer) (b' : Board C) : Type 0 where
-  pub step : Step depth held finishes (state_of b.books) b.card call answer (state_of b'.books) b'.card
+pub record Did {C : Type 0} (cards : Ghosts C) (b : Board C cards) (call : Call) (answer : Answer) (b' : Board C cards) : Type 0 where
+  pub step : Step cards.depth cards.held cards.finishes (state_of b.books) b.card call answer (state_of b'.books) b'.card
 
 -- The calls of the log, in their order, each by its rule, take the first board to the last.
-pub data Run {C : Type 0} (depth : ℕ) (held : C → List Command) (finishes : C → Option (ℕ × ℕ) → C → Type 0) (first : Board C) : List Entry → Board C → Type 0 where
-  start : Run depth held finishes first [] first
-  more : {log : List Entry} {b b' : Board C} (call : Call) (answer : Answer) → Run depth held finishes first log b → Did depth held finishes b call answer b' → Run depth held finishes first (log ++ (call, answer) ∷ []) b'
+pub data Run {C : Type 0} (cards : Ghosts C) (first : Board C cards) : List Entry → Board C cards → Type 0 where
+  start : Run cards first [] first
+  more : {log : List Entry} {b b' : Board C cards} (call : Call) (answer : Answer) → Run cards first log b → Did cards b call answer b' → Run cards first (log ++ (call, answer) ∷ []) b'
 
 -- These calls on a new board around the card, with these answers, can lead to the card c.
-pub record Reached {C : Type 0} (depth : ℕ) (held : C → List Command) (finishes : C → Option (ℕ × ℕ) → C → Type 0) (card : C) (log : List Entry) (c : C) : Type 0 where
-  pub first : Board C
-  pub last : Board C
+pub record Reached {C : Type 0} (cards : Ghosts C) (card : C) (log : List Entry) (c : C) : Type 0 where
+  pub first : Board C cards
+  pub last : Board C cards
   pub new : state_of first.books ≡ empty blank
   pub around : first.card ≡ card
-  pub run : Run depth held finishes first log last
+  pub run : Run cards first log last
   pub there : last.card ≡ c

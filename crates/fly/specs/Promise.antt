@@ -3,6 +3,7 @@ use Rattle.std.specs.Prelude.{◌≡◌, ℕ, ◌<◌, ◌≤◌, List, ◌∷�
 use Rattle.std.specs.List.{zip}
 use Rattle.std.specs.List.Sorted.{IsPermutation}
 use Rattle.card.specs.Commands.{command}
+use Rattle.card.specs.declared.Card.{Ghosts}
 use Rattle.card.specs.declared.Command.{Command}
 use Rattle.shares.specs.Events.{Sheet, Request, Event, loaded, arrived, sent, finished, nothing, Seen, seen}
 use Rattle.shares.specs.Law.{Law}
@@ -40,13 +41,13 @@ Kicks log = (before rest : List Entry) (s : Sheet) (l : ℕ) (a : Answer) → be
     → (IsSent (told (Kick l) a) → CanSend s (after before)) × (CanSend s (after before) → IsSent (told (Kick l) a))
 
 -- The whole promise.
-pub record Promise {C : Type 0} (depth : ℕ) (held : C → List Command) (finishes : C → Option (ℕ × ℕ) → C → Type 0) (card : C) (calls : List Call) (answers : List Answer) (card' : C) : Type 0 where
+pub record Promise {C : Type 0} (cards : Ghosts C) (card : C) (calls : List Call) (answers : List Answer) (card' : C) : Type 0 where
   -- each call has one answer, of its kind
   pub kinds : map call_kind calls ≡ map answer_kind answers
   -- the answers are those of the rules, from a new board around the card on
-  pub reached : Reached depth held finishes card (zip calls answers) card'
+  pub reached : Reached cards card (zip calls answers) card'
   -- shares by weight, tickets, and what is sent and finished
   pub law : Law (map event (zip calls answers))
   -- what the card holds, at each point of the list
-  pub holds : (before rest : List Entry) (c : C) → before ++ rest ≡ zip calls answers → Reached depth held finishes card before c → Holds before (held c)
+  pub holds : (before rest : List Entry) (c : C) → before ++ rest ≡ zip calls answers → Reached cards card before c → Holds before (cards.held c)
   pub kicks : Kicks (zip calls answers)

@@ -21,7 +21,7 @@ pub struct Grounded<C> {
 
 // Makes one call.
 fn perform<C: Card>(board: &mut Board<C>, call: Call) -> Answer
-    ensures { Did depth held finishes board.old call result board.new }
+    ensures { Did C.Card board.old call result board.new }
 {
     match call {
         Call::Load(sheet) => Answer::Loaded(board.load(sheet)),
@@ -40,7 +40,7 @@ fn perform<C: Card>(board: &mut Board<C>, call: Call) -> Answer
 
 // Makes the calls in order on a new board around the card. Room for all answers is taken before the first call.
 pub fn fly<C: Card>(heap: Global, card: C, calls: &[Call]) -> Result<Flight<C>, Grounded<C>>
-    ensures { MatchResult result (λ f. Promise depth held finishes card calls.now f.answers.items f.board.card) (λ g. g.card ≡ card) }
+    ensures { MatchResult result (λ f. Promise C.Card card calls.now f.answers.items f.board.card) (λ g. g.card ≡ card) }
 {
     let mut answers = match Vec::with_capacity(heap, calls.len()) {
         Ok(answers) => answers,

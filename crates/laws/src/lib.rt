@@ -1,4 +1,6 @@
 // The rules of the board keep the step relation of which the law of fair shares is proved, and what else they come to in the subject's own words.
+#![tactic(auto)]
+
 ghost use Rattle.laws.specs.Steps.{ArrivalsStep, BooksFair, KicksHand, KicksStep, LoadsStep, ReapsStep, SendsStep, TimeIsLeast};
 
 /// An arrival that is accepted starts at the greater of virtual time and its flow's end tag, and joins those that wait; one that is refused changes nothing.

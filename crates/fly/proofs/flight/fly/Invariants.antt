@@ -8,4 +8,4 @@ invariant-loop-call g l =
     (length (vec_items l.answers) ≡ l.call-index)
     × (vec_len l.answers ≡ l.call-index)
     × (length l.calls ≤ vec_capacity l.answers)
-    × Run g.C.Card.depth g.C.Card.held g.C.Card.finishes l.initial.board (zip (take l.call-index l.calls) (vec_items l.answers)) l.board
+    × Run g.C.Card l.initial.board (zip (take l.call-index l.calls) (vec_items l.answers)) l.board

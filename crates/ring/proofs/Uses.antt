@@ -1,5 +1,5 @@
 -- What a caller learns from `push` where there is room, and from `pop` where it answers a command.
-use Rattle.std.proofs.Common.{◌≡◌, ℕ, ◌<◌, Bool, true, cond, ltb, List, [], ◌∷◌, ◌++◌, length, Some, ap, ◌∙◌, arith, lt-ltb}
+use Rattle.std.proofs.Common.{◌≡◌, ℕ, ◌<◌, Bool, cond, ltb, List, [], ◌∷◌, ◌++◌, length, Some, ap, ◌∙◌, arith, lt-ltb}
 use Rattle.card.specs.declared.Command.{Command}
 use Rattle.ring.specs.Rings.{head_of, tail_of}
 

@@ -1,5 +1,5 @@
 -- A list that lies in a circle of places.
-use Rattle.std.specs.Prelude.{ℕ, zero, suc, ◌+◌, ◌-◌, Bool, true, false, cond, ◌||◌, List, [], ◌∷◌, ◌==◌, nat_lt}
+use Rattle.std.specs.Prelude.{ℕ, zero, suc, ◌+◌, ◌-◌, Bool, false, cond, ◌||◌, List, [], ◌∷◌, ◌==◌, nat_lt}
 
 -- place i of n places in a circle, where i may have gone round once
 abbrev pub wrap : ℕ → ℕ → ℕ

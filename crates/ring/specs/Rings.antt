@@ -1,5 +1,5 @@
 -- What a ring of commands holds, and what taking one out of it does.
-use Rattle.std.specs.Prelude.{◌≡◌, ℕ, List, [], ◌∷◌, Some, None, Option, slice_index}
+use Rattle.std.specs.Prelude.{ℕ, List, [], ◌∷◌, Some, None, Option, slice_index}
 use Rattle.card.specs.declared.Command.{Command}
 use Rattle.card.specs.Commands.{command}
 use Rattle.ring.specs.declared.Ring.{Ring}

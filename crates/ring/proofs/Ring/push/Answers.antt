@@ -15,5 +15,5 @@ returns g c =
     let full = length-around (command_at r.tickets r.sectors) g.row.N r.first r.len in
     record {
       room = sym (ap (λ k. ltb k g.row.N) full ∙ lt-ltb r.len g.row.N (omega arith));
-      held = commands_push r.tickets r.sectors g.row.N r.first r.len c.free-place-free.result c.args.command.ticket c.args.command.sectors r.tickets_fill r.sectors_fill (omega arith) (omega arith) c.free-place-free.ensures.0 c.free-place-free.ensures.1;
+      held = commands_push r.tickets r.sectors g.row.N r.first r.len c.free_place-free.result c.args.command.ticket c.args.command.sectors r.tickets_fill r.sectors_fill (omega arith) (omega arith) c.free_place-free.ensures.0 c.free_place-free.ensures.1;
     }

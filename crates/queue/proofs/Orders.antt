@@ -5,7 +5,6 @@ use Rattle.card.specs.declared.Command.{Command}
 use Rattle.card.specs.declared.CardFault.{CardFault}
 use Rattle.card.specs.declared.CardFault.TheVariants.{Full, HeldAlready}
 use Rattle.card.specs.Commands.{among, command}
-use Rattle.queue.specs.Queues.{submit_rule, finish_rule}
 use Rattle.queue.specs.Fifo.{Call, submit, finish, next, took, gave, after, accepted, finished, tickets, Fifo}
 
 -- one submit, whichever way its two tests come out

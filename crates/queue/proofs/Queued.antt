@@ -1,5 +1,5 @@
 -- What a command behind the queue, and the oldest taken from it, mean for a card.
-use Rattle.std.proofs.Common.{◌≡◌, ℕ, ◌<◌, false, List, [], ◌∷◌, ◌++◌, length, Some, Ok, sym, refl, subst, lt-ltb}
+use Rattle.std.proofs.Common.{◌≡◌, ℕ, ◌<◌, false, List, [], ◌∷◌, ◌++◌, length, Some, Ok, sym, subst, lt-ltb}
 use Rattle.card.specs.declared.Command.{Command}
 use Rattle.card.specs.Commands.{among, command, More, Finished}
 use Rattle.card.proofs.Bags.{same_refl}

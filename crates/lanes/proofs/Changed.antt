@@ -1,5 +1,5 @@
 -- The leads of the lanes after one lane changes. Assumes nothing.
-use Rattle.std.proofs.Common.{◌≡◌, ℕ, zero, suc, ◌+◌, ◌<◌, ◌≤◌, Bool, true, false, cond, eqb, ltb, List, [], ◌∷◌, ◌++◌, length, get_or, set, Some, None, sum_by, Option, sym, refl, ap, ◌∙◌, subst, ⊎_elim, arith}
+use Rattle.std.proofs.Common.{◌≡◌, ℕ, zero, suc, ◌+◌, ◌<◌, ◌≤◌, true, false, cond, eqb, ltb, List, [], ◌∷◌, length, get_or, set, Some, None, sum_by, Option, sym, refl, ap, ◌∙◌, subst, ⊎_elim, arith}
 use Rattle.std.specs.Option.{option_to_list}
 use Rattle.std.proofs.lemmas.List.{get_or-set_same, length-append, length-map, length-set}
 use Rattle.std.proofs.lemmas.List.Sums.{sum_by-cons, sum_by-append}
@@ -127,9 +127,9 @@ lead_stays i x (y ∷ ys) e = cond_both (upto (by_start x) (by_start y)) (x ∷ 
     let same : y.start ≡ x.start = omega (arith, low, ltb-false x.start y.start (sym e)) in λ j. record { start = same j; lane = i } ∷ [])
     (λ _. refl)
 
--- what the eight lanes keep, as their ghost fields list it
+-- what the eight lanes keep, as their ghost fields say
 abbrev pub Kept : List Lane → List Lead → Type 0
-Kept ls held = (length ls ≡ 8) × (Tied held (lanes_in ls) × Unit {0})
+Kept ls held = (length ls ≡ 8) × Tied held (lanes_in ls)
 
 as_long : (ls ls' : List Lane) (i : ℕ) (w : List Request) → length ls ≡ 8 → lanes_in ls' ≡ set (lanes_in ls) i w → length ls' ≡ 8
 as_long ls ls' i w e s = omega (arith, length-map ls waits, length-map ls' waits, ap length s, length-set (lanes_in ls) i w)
@@ -143,19 +143,19 @@ module _ (ls : List Lane) (held : List Lead) (eight : length ls ≡ 8) (tied : T
   keeps-room z = omega (arith, tied_room held (lanes_in ls) i inside tied z, length-map ls waits)
 
   pub keeps-refused : (ls' : List Lane) → lanes_in ls' ≡ lanes_in ls → Kept ls' held
-  keeps-refused ls' s = (omega (arith, length-map ls waits, length-map ls' waits, ap length s), (subst (Tied held) (sym s) tied, tt))
+  keeps-refused ls' s = (omega (arith, length-map ls waits, length-map ls' waits, ap length s), subst (Tied held) (sym s) tied)
 
   pub keeps-push : (ls' : List Lane) (held' : List Lead) (x : Request) (first : Option Request) (new : Option Lead) → lanes_in ls' ≡ set (lanes_in ls) i (insert by_start x (get_or (lanes_in ls) i [])) → first ≡ head_of (get_or (lanes_in ls) i []) → true ≡ goes_first x.start first → option_to_list new ≡ record { start = x.start; lane = i } ∷ [] → Updates i new held held' → Kept ls' held'
   keeps-push ls' held' x first new s f t e u =
       let w = insert by_start x (get_or (lanes_in ls) i []) in
-      (as_long ls ls' i w eight s, (subst (Tied held') (sym s) (tied_update held held' (lanes_in ls) i w new inside tied u (e ∙ lead_new i x (get_or (lanes_in ls) i []) (t ∙ ap (goes_first x.start) f))), tt))
+      (as_long ls ls' i w eight s, subst (Tied held') (sym s) (tied_update held held' (lanes_in ls) i w new inside tied u (e ∙ lead_new i x (get_or (lanes_in ls) i []) (t ∙ ap (goes_first x.start) f))))
 
   pub keeps-behind : (ls' : List Lane) (x : Request) (first : Option Request) → lanes_in ls' ≡ set (lanes_in ls) i (insert by_start x (get_or (lanes_in ls) i [])) → first ≡ head_of (get_or (lanes_in ls) i []) → false ≡ goes_first x.start first → Kept ls' held
   keeps-behind ls' x first s f t =
       let w = insert by_start x (get_or (lanes_in ls) i []) in
-      (as_long ls ls' i w eight s, (subst (Tied held) (sym s) (tied_same held (lanes_in ls) i w inside tied (lead_stays i x (get_or (lanes_in ls) i []) (t ∙ ap (goes_first x.start) f))), tt))
+      (as_long ls ls' i w eight s, subst (Tied held) (sym s) (tied_same held (lanes_in ls) i w inside tied (lead_stays i x (get_or (lanes_in ls) i []) (t ∙ ap (goes_first x.start) f))))
 
   pub keeps-pop : (ls' : List Lane) (held' : List Lead) (rest : List Request) (next : Option Request) (new : Option Lead) → lanes_in ls' ≡ set (lanes_in ls) i rest → next ≡ head_of (get_or (lanes_in ls') i []) → option_to_list new ≡ lead_at i (option_to_list next) → Updates i new held held' → Kept ls' held'
   keeps-pop ls' held' rest next new s f e u =
       let left : get_or (lanes_in ls') i [] ≡ rest = ap (λ l. get_or l i []) s ∙ get_or-set_same (lanes_in ls) i rest [] inside in
-      (as_long ls ls' i rest eight s, (subst (Tied held') (sym s) (tied_update held held' (lanes_in ls) i rest new inside tied u (e ∙ ap (λ o. lead_at i (option_to_list o)) (f ∙ ap head_of left) ∙ lead_head i rest)), tt))
+      (as_long ls ls' i rest eight s, subst (Tied held') (sym s) (tied_update held held' (lanes_in ls) i rest new inside tied u (e ∙ ap (λ o. lead_at i (option_to_list o)) (f ∙ ap head_of left) ∙ lead_head i rest)))

@@ -1,8 +1,8 @@
 -- What callers may use of the lanes and of the table. Assumes nothing.
-use Rattle.std.proofs.Common.{◌≡◌, ℕ, zero, suc, ◌<◌, ◌≤◌, true, cond, ◌&&◌, ltb, List, [], ◌∷◌, length, get_or, take, ◌∙◌, arith}
-use Rattle.std.specs.List.{AllByRecursion as All}
+use Rattle.std.proofs.Common.{◌≡◌, ℕ, zero, suc, ◌<◌, ◌≤◌, true, ltb, List, [], ◌∷◌, length, get_or, take, ◌∙◌, arith}
+use Rattle.std.specs.List.{AllByRecursion}
 use Rattle.std.proofs.lemmas.List.{length-map}
-use Rattle.std.proofs.lemmas.Bool.{and_from, cond-true, lt-ltb}
+use Rattle.std.proofs.lemmas.Bool.{and_from, lt-ltb}
 use Rattle.heap.proofs.Sorting.{Ordered, ordered-sorted}
 use Rattle.lanes.specs.Lanes.{has_room, lanes_of}
 use Rattle.lanes.specs.Records.{by_start, by_ticket}
@@ -28,10 +28,10 @@ lanes_few l i = go l.array.lanes i
     go (v ∷ ls) (suc i) = go ls i
 
 -- each lane is in order
-pub lanes_ordered : (l : Lanes) → All (Ordered by_start) (lanes_of l)
+pub lanes_ordered : (l : Lanes) → AllByRecursion (Ordered by_start) (lanes_of l)
 lanes_ordered l = go l.array.lanes
   where
-    go : (ls : List Lane) → All (Ordered by_start) (lanes_in ls)
+    go : (ls : List Lane) → AllByRecursion (Ordered by_start) (lanes_in ls)
     go [] = tt
     go (v ∷ ls) = (ordered-sorted by_start (take v.count v.slots), go ls)
 

@@ -1,12 +1,12 @@
 -- The leads of the lanes, and the least of their start tags. Assumes nothing.
-use Rattle.std.proofs.Common.{◌≡◌, ℕ, zero, suc, ◌+◌, ◌<◌, ◌≤◌, min, Bool, true, false, cond, eqb, ltb, List, [], ◌∷◌, ◌++◌, length, get_or, take, Some, None, sum_by, Option, sym, refl, ap, ◌∙◌, subst, ⊎_elim, arith}
+use Rattle.std.proofs.Common.{◌≡◌, ℕ, suc, ◌<◌, ◌≤◌, true, cond, eqb, ltb, List, [], ◌∷◌, length, get_or, take, Some, None, sum_by, Option, sym, refl, ap, ◌∙◌, ⊎_elim, arith}
 use Rattle.std.proofs.lemmas.List.{length-take}
-use Rattle.std.proofs.lemmas.List.Sums.{sum_by-cons, sum_by-append}
+use Rattle.std.proofs.lemmas.List.Sums.{sum_by-cons}
 use Rattle.std.proofs.lemmas.Bool.{cases_eq, cases_lt, eq-eqb, ne_eqb, le-ltb, lt-ltb, ltb-true, cond-true, cond-false, or_cases, and_parts, eqb-true}
 use Rattle.heap.specs.Heaps.{Heaped, Least, Peeked}
 use Rattle.heap.proofs.Held.{take_none}
 use Rattle.lanes.specs.Records.{lead_upto}
-use Rattle.lanes.specs.Waits.{starts, least, lead_at, leads_from, start_of, Tied}
+use Rattle.lanes.specs.Waits.{starts, least, leads_from, start_of, Tied}
 use Rattle.lanes.specs.declared.records.Lead.{Lead}
 use Rattle.lanes.specs.declared.records.Request.{Request}
 

@@ -1,6 +1,6 @@
 -- The least of the leads' start tags is that of all that wait. Assumes nothing.
-use Rattle.std.proofs.Common.{◌≡◌, ℕ, zero, suc, ◌<◌, ◌≤◌, min, eqb, ltb, List, [], ◌∷◌, ◌++◌, map, length, get_or, sym, refl, ap, ◌∙◌, subst, ⊎_elim, arith}
-use Rattle.std.specs.List.{ContainsAt as Has, AllByRecursion as All}
+use Rattle.std.proofs.Common.{◌≡◌, ℕ, zero, suc, ◌≤◌, min, ltb, List, [], ◌∷◌, ◌++◌, map, length, sym, refl, ap, subst, ⊎_elim, arith}
+use Rattle.std.specs.List.{ContainsAt as Has, AllByRecursion}
 use Rattle.std.proofs.ByRecursion.{All-append, All-map, All-weaker, has_append_right}
 use Rattle.std.proofs.lemmas.Bool.{and_parts, cases_lt, eqb-true, ltb-true, or_cases}
 use Rattle.heap.proofs.Sorting.{First, Ordered}
@@ -14,7 +14,7 @@ has_head n ns m e = (0, omega arith, λ d. sym e)
 has_tail : (n : ℕ) (ns : List ℕ) (m : ℕ) → Has ns m → Has (n ∷ ns) m
 has_tail n ns m h = (suc h.0, omega (arith, h.1), h.2)
 
-least_under : (v : ℕ) (ns : List ℕ) → All (λ n. least v ns ≤ n) ns
+least_under : (v : ℕ) (ns : List ℕ) → AllByRecursion (λ n. least v ns ≤ n) ns
 least_under v [] = tt
 least_under v (n ∷ ns) = (omega arith, All-weaker (λ m. least n ns ≤ m) (λ m. min n (least n ns) ≤ m) (λ m l. omega (arith, l)) ns (least_under n ns))
 
@@ -28,7 +28,7 @@ least_reached v n (m ∷ ns) = ⊎_elim
 start_low : (x y : Request) → First by_start x y → x.start ≤ y.start
 start_low x y h = ⊎_elim (λ l. omega (arith, ltb-true x.start y.start l)) (λ k. omega (arith, eqb-true x.start y.start (and_parts _ _ k).0)) (or_cases (ltb x.start y.start) _ h)
 
-all_over : (b : ℕ) (ls : List (List Request)) → All (λ n. b ≤ n) (starts ls) → All (Ordered by_start) ls → All (λ n. b ≤ n) (all_starts ls)
+all_over : (b : ℕ) (ls : List (List Request)) → AllByRecursion (λ n. b ≤ n) (starts ls) → AllByRecursion (Ordered by_start) ls → AllByRecursion (λ n. b ≤ n) (all_starts ls)
 all_over b [] h o = tt
 all_over b ([] ∷ ls) h o = all_over b ls h o.1
 all_over b ((r ∷ rs) ∷ ls) h o = (
@@ -47,7 +47,7 @@ has_all ((r ∷ rs) ∷ ls) m (suc k, l, h) = has_append_right (map (λ (q : Req
 some_start : (n : ℕ) (ns : List ℕ) → n ∷ ns ≡ [] → ⊥
 some_start n ns e = omega (arith, ap length e)
 
-pub least_stands_lem : (v : ℕ) (ls : List (List Request)) → All (Ordered by_start) ls → IsLeast v (all_starts ls) (least v (starts ls))
+pub least_stands_lem : (v : ℕ) (ls : List (List Request)) → AllByRecursion (Ordered by_start) ls → IsLeast v (all_starts ls) (least v (starts ls))
 least_stands_lem v ls o =
     record {
       kept = none ls;

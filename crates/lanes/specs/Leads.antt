@@ -1,5 +1,5 @@
 -- The leads that are held.
-use Rattle.std.specs.Prelude.{◌≡◌, ℕ, ◌+◌, ◌≤◌, List, [], ◌∷◌, take, Some, None, sum_by, Option}
+use Rattle.std.specs.Prelude.{◌≡◌, ℕ, ◌+◌, ◌≤◌, List, take, Some, None, sum_by, Option}
 use Rattle.std.specs.Option.{option_to_list}
 use Rattle.lanes.specs.Records.{lane_is}
 use Rattle.lanes.specs.declared.leads.Leads.{Leads}

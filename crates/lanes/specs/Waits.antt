@@ -1,6 +1,6 @@
 -- What waits: for each lane its requests in order, the lead first.
 use Rattle.std.specs.Prelude.{◌≡◌, ℕ, suc, ◌≤◌, min, Bool, true, List, [], ◌∷◌, ◌++◌, map, take, Some, None, sum_by, Option, ◌≢◌, nat_lt, slice_index_or, slice_set}
-use Rattle.std.specs.List.{ContainsAt as Has, AllByRecursion as All}
+use Rattle.std.specs.List.{ContainsAt as Has, AllByRecursion}
 use Rattle.heap.specs.Sorting.{sorted}
 use Rattle.lanes.specs.Records.{by_start}
 use Rattle.lanes.specs.declared.lane.Lane.{Lane}
@@ -63,5 +63,5 @@ all_starts (w ∷ ls) = map (λ (r : Request). r.start) w ++ all_starts ls
 -- m is the least of the numbers ns, or v where there is none
 pub record IsLeast (v : ℕ) (ns : List ℕ) (m : ℕ) : Type 0 where
   pub kept : ns ≡ [] → m ≡ v
-  pub under : All (λ n. m ≤ n) ns
+  pub under : AllByRecursion (λ n. m ≤ n) ns
   pub reached : (ns ≢ []) → Has ns m

@@ -1,4 +1,4 @@
-ghost use Rattle.std.specs.Prelude.{◌≡◌, ℕ, ◌+◌, ◌<◌, [], length, get_or, sum_by, MatchOption, nat_lt, slice_index_or};
+ghost use Rattle.std.specs.Prelude.{◌≡◌, ℕ, ◌+◌, ◌<◌, [], length, sum_by, MatchOption, nat_lt, slice_index_or};
 ghost use Rattle.heap.specs.Heaps.{Peeked};
 ghost use Rattle.lanes.specs.Leads.{leads_of, Updates};
 ghost use Rattle.lanes.specs.Records.{lane_is, lead_upto};
@@ -34,7 +34,7 @@ impl Leads {
 
     // The place of a lane's lead.
     fn place(&self, lane: usize) -> Option<usize>
-        ensures { MatchOption result (sum_by (lane_is lane) (leads_of self.now) ≡ 0) (λ i. (i < length (leads_of self.now)) × ((d : Lead) → (get_or (leads_of self.now) i d).lane ≡ lane)) }
+        ensures { MatchOption result (sum_by (lane_is lane) (leads_of self.now) ≡ 0) (λ i. (i < length (leads_of self.now)) × ((d : Lead) → (slice_index_or (leads_of self.now) i d).lane ≡ lane)) }
     {
         for i in 0..self.count {
             if self.slots[i].lane == lane {

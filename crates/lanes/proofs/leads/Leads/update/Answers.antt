@@ -1,6 +1,6 @@
 use Rattle.std.proofs.Common.{get_or, Some, sum_by, ap, arith}
 use Rattle.std.specs.Option.{option_to_list}
-use Rattle.std.proofs.lemmas.List.Sums.{get_or-le-sum_by, sum_by-cons}
+use Rattle.std.proofs.lemmas.List.Sums.{get_or-le-sum_by}
 use Rattle.lanes.specs.Leads.{leads_of}
 use Rattle.lanes.specs.Records.{no_lead}
 use Rattle.lanes.proofs.leads.Leads.update.Goals as goal

@@ -13,8 +13,8 @@ room t l = omega (arith, l, length_held by_ticket t.slots t.count t.sized t.with
 pub bounds-self-self : goal.bounds-self-self
 bounds-self-self c = room c.args.self.now c.requires
 
-pub invariant-of-self : goal.invariant-of-self
-invariant-of-self c = let t = c.args.self.now in (length-set t.slots t.count _ ∙ t.sized, (omega (arith, room t c.requires), tt))
+pub invariant_of-self : goal.invariant_of-self
+invariant_of-self c = let t = c.args.self.now in record { sized = length-set t.slots t.count _ ∙ t.sized; within = omega (arith, room t c.requires) }
 
 pub returns : goal.returns
 returns c = let t = c.args.self.now in stored t.slots t.count c.args.x (omega (arith, room t c.requires, t.sized))

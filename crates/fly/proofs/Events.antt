@@ -23,7 +23,7 @@ use Rattle.board.specs.declared.answer.Sending.TheVariants.{Empty, Throttled, No
 use Rattle.board.specs.declared.board.Board.{Board}
 use Rattle.laws.specs.Steps.{request_of, shares_of, waiting_of, books_of, Fair, sent_by, finished_by}
 use Rattle.laws.proofs.Keeps.{arrivals_step_lem}
-use Rattle.laws.proofs.Sent.{sends_step, kicks_step_lem, reaps_step_lem, loads_step_lem, books_fair_lem}
+use Rattle.laws.proofs.Sent.{sends_step_lem, kicks_step_lem, reaps_step_lem, loads_step_lem, books_fair_lem}
 use Rattle.fly.specs.Flights.{Entry, told, event, Step, Did, Run, start, more}
 use Rattle.fly.specs.declared.call.Answer.{Answer}
 use Rattle.fly.specs.declared.call.Answer.TheVariants.{Loaded, Arrived, Moved, Reaped, VirtualTime, ReadyLanes}
@@ -166,7 +166,7 @@ module _ {C : Type 0} (cards : Ghosts C) where
   moves : (s s' : State) (c c' : C) (call : Call) (a : Answer) → Sound s → Fair s → Step cards.depth cards.held cards.finishes s c call a s' c' → MovesSo s (told call a) s'
   moves s s' c c' (Load sheet) a k fair st = to s (Load sheet) st.0 st.1 (load_moves s sheet (load_rule cards.depth (cards.held c) s (content_of sheet)).0 (load_rule cards.depth (cards.held c) s (content_of sheet)).1 (loaded s sheet (Some (shares_of s.sheet)) cards.depth (cards.held c)))
   moves s s' c c' (Arrive f l n) a k fair st = to s (Arrive f l n) st.0 st.1 (arrive_moves s f l n (arrive_rule s f l n).0 (arrive_rule s f l n).1 (arrivals_step_lem s f l n k fair) (arrives_so s f l n))
-  moves s s' c c' (Send l) a k fair st = to s (Send l) st.0 st.1 (send_moves (Send l) s (send_rule cards.depth (cards.held c) s l) (sends_step cards.depth (cards.held c) s l k fair) (send_sheet cards.depth (cards.held c) s l))
+  moves s s' c c' (Send l) a k fair st = to s (Send l) st.0 st.1 (send_moves (Send l) s (send_rule cards.depth (cards.held c) s l) (sends_step_lem cards.depth (cards.held c) s l k fair) (send_sheet cards.depth (cards.held c) s l))
   moves s s' c c' (Kick l) a k fair st = to s (Kick l) st.0 st.1 (send_moves (Kick l) s (kick_rule cards.depth (cards.held c) s l) (kicks_step_lem cards.depth (cards.held c) s l k fair) (kick_sheet cards.depth (cards.held c) s l))
   moves s s' c c' Reap a k fair st = to s Reap st.3 st.4 (reap_moves s st.0 k)
   moves s s' c c' Time a k fair st = to s Time st.0 st.1 (still s s refl)

@@ -1,12 +1,11 @@
 -- Virtual time against the start tags. Assumes nothing.
-use Rattle.std.proofs.Common.{◌≡◌, ℕ, ◌+◌, ◌≤◌, min, true, List, [], ◌∷◌, ◌++◌, map, sum_by, sym, refl, ap, ◌∙◌, subst, ⊎_elim, arith}
+use Rattle.std.proofs.Common.{◌≡◌, ℕ, ◌≤◌, min, List, [], ◌∷◌, ◌++◌, map, sum_by, sym, refl, ap, subst, ⊎_elim, arith}
 use Rattle.std.specs.List.{flat_map, AllByRecursion}
 use Rattle.std.proofs.lemmas.List.{map-append}
 use Rattle.std.proofs.lemmas.List.Sums.{sum_by-cons, sum_by-append}
 use Rattle.std.proofs.lemmas.Bool.{or_cases, and_parts, ltb-true, eqb-true}
 use Rattle.heap.proofs.Sorting.{First, Ordered}
 use Rattle.shares.specs.Events as share
-use Rattle.shares.specs.Steps as step
 use Rattle.shares.proofs.Shuffles.{sum_by-map}
 use Rattle.lanes.specs.Lanes.{starts, least}
 use Rattle.lanes.specs.Records.{by_start}

@@ -1,13 +1,11 @@
 -- A kick hands over whenever it can. Assumes nothing.
-use Rattle.std.proofs.Common.{◌≡◌, ℕ, ◌<◌, true, false, List, [], ◌∷◌, length, filter, sym, refl, ap, subst, arith}
+use Rattle.std.proofs.Common.{◌≡◌, ℕ, ◌<◌, true, false, List, [], ◌∷◌, length, filter, refl, arith}
 use Rattle.std.specs.List.{AllByRecursion}
 use Rattle.std.proofs.lemmas.Bool.{both_ways}
 use Rattle.heap.proofs.Sorting.{all-sorted}
-use Rattle.card.specs.declared.Command.{Command}
-use Rattle.lanes.specs.Lanes.{head_of, starts}
+use Rattle.lanes.specs.Lanes.{head_of}
 use Rattle.near.specs.Lanes.{distance}
 use Rattle.books.specs.Model.{State, lane_at, ready, ready_with, ready_lanes, eight}
-use Rattle.books.specs.Sound.{Sound}
 use Rattle.lanes.specs.declared.records.Request.{Request}
 use Rattle.books.proofs.Ready.{all_kept, each, some_ready}
 use Rattle.board.proofs.Sends.{kicks}

@@ -1,5 +1,5 @@
 -- An arrival is a step. Assumes nothing.
-use Rattle.std.proofs.Common.{◌≡◌, ℕ, zero, suc, ◌+◌, ◌<◌, ◌≤◌, max, cond, ◌||◌, eqb, ltb, leb, List, [], ◌∷◌, map, length, get_or, set, Ok, Err, sum_by, Result, sym, refl, ap, ◌∙◌, subst, ⊎_elim, arith, MatchResult}
+use Rattle.std.proofs.Common.{◌≡◌, ℕ, zero, suc, ◌<◌, ◌≤◌, ◌||◌, eqb, ltb, leb, List, [], ◌∷◌, length, get_or, set, Result, refl, subst, arith, MatchResult}
 use Rattle.std.specs.List.{AllByRecursion}
 use Rattle.std.specs.List.Sorted.{IsPermutation}
 use Rattle.std.proofs.lemmas.List.{get_or-set_same, get_or-set_other}
@@ -8,15 +8,13 @@ use Rattle.std.proofs.lemmas.List.Sorted.{IsPermutation-refl}
 use Rattle.std.proofs.ByRecursion.{all_shuffled}
 use Rattle.std.proofs.lemmas.Bool.{cond_both, leb-false, or_parts, eqb-false, ltb-false}
 use Rattle.charge.proofs.Charges.{laws}
-use Rattle.heap.specs.Sorting.{insert}
 use Rattle.heap.proofs.Sorting.{Ordered, ordered-insert}
 use Rattle.shares.specs.Events as share
 use Rattle.shares.specs.Steps as step
 use Rattle.shares.proofs.Shuffles.{requests_from_sums}
-use Rattle.lanes.specs.Lanes.{starts, least}
-use Rattle.books.specs.Model.{State, Arrival, most, flow_at, lane_at, tagged, entered, arrive_rule}
+use Rattle.lanes.specs.Lanes.{starts}
+use Rattle.books.specs.Model.{State, Arrival, most, flow_at, lane_at, tagged, entered}
 use Rattle.lanes.specs.Records.{by_start}
-use Rattle.books.specs.Model.{waiting}
 use Rattle.books.specs.Sound.{Sound}
 use Rattle.books.specs.declared.refusal.Refusal.{Refusal}
 use Rattle.lanes.specs.declared.records.Request.{Request}

@@ -1,37 +1,33 @@
 -- What is sent, finished and loaded is a step. Assumes nothing.
-use Rattle.std.proofs.Common.{◌≡◌, ℕ, zero, suc, ◌+◌, ◌<◌, ◌≤◌, Bool, true, false, cond, ◌||◌, eqb, ltb, leb, List, [], ◌∷◌, map, length, get_or, take, set, replicate, Some, None, Ok, Err, sum_by, filter, Option, Result, sym, refl, ap, ◌∙◌, subst, inl, inr, ⊎_elim, arith, MatchResult}
+use Rattle.std.proofs.Common.{◌≡◌, ℕ, zero, suc, ◌+◌, ◌<◌, ◌≤◌, true, ◌||◌, eqb, ltb, leb, List, [], ◌∷◌, map, length, get_or, take, replicate, Some, None, Ok, Err, sum_by, filter, Option, Result, sym, refl, ap, ◌∙◌, subst, inr, ⊎_elim, arith, MatchResult}
 use Rattle.std.specs.List.{AllByRecursion}
 use Rattle.std.specs.List.Sorted.{IsPermutation}
 use Rattle.std.proofs.lemmas.List.{length-map, length-take, nil_from_length}
 use Rattle.std.proofs.lemmas.List.Sums.{sum_by-cons}
 use Rattle.std.proofs.lemmas.List.Sorted.{IsPermutation-refl}
 use Rattle.std.proofs.ByRecursion.{all_shuffled}
-use Rattle.std.proofs.lemmas.Bool.{cond_both, cond-true, cond-false, leb-true, leb-false, ltb-false, or_parts, cases_Bool, eqb-true, eqb-false, eq-eqb}
+use Rattle.std.proofs.lemmas.Bool.{cond_both, cond-true, cond-false, leb-true, leb-false, ltb-false, or_parts, cases_Bool, eqb-true}
 use Rattle.sheet.proofs.Fits.{all_of_at, flow_fits_lem}
 use Rattle.sheet.specs.Ranges.{flow_fits}
-use Rattle.sheet.specs.Sheets.{Content, no_flow}
-use Rattle.heap.specs.Sorting.{insert, sorted}
+use Rattle.sheet.specs.Sheets.{no_flow}
 use Rattle.heap.proofs.Sorting.{Ordered, ordered-sorted, sumBy-insert, all-sorted}
 use Rattle.card.specs.declared.CardFault.{CardFault}
-use Rattle.card.specs.declared.Command.{Command}
 use Rattle.shares.specs.Events as share
 use Rattle.shares.specs.Steps as step
 use Rattle.shares.proofs.Shuffles.{requests_from_sums, sum_by-map}
-use Rattle.lanes.specs.Lanes.{starts, least}
+use Rattle.lanes.specs.Lanes.{starts}
 use Rattle.lanes.specs.Waits.{lanes_in}
 use Rattle.near.specs.Lanes.{distance}
-use Rattle.books.specs.Model.{State, lane_at, moved_from, found, without, finished, empty, ready, ready_with, ready_lanes, eight}
+use Rattle.books.specs.Model.{State, lane_at, moved_from, found, without, ready, ready_with, ready_lanes, eight}
 use Rattle.lanes.specs.Records.{by_start, by_ticket, ticket_is}
 use Rattle.books.specs.Sound.{Sound}
-use Rattle.books.specs.Views.{state_of}
-use Rattle.books.specs.declared.books.Books.{Books}
 use Rattle.lanes.specs.declared.lane.Lane.{Lane}
 use Rattle.lanes.specs.declared.records.Request.{Request}
 use Rattle.books.specs.declared.refusal.Refusal.{Refusal}
 use Rattle.books.proofs.Ready.{all_kept, each}
 use Rattle.books.proofs.Removes.{without_none}
 use Rattle.books.proofs.Sums.{waiting_less}
-use Rattle.board.specs.Rules.{Outcome, stays, submits, handed, hand_first, send_first, send_rule, kick_from, kick_rule, reap_found, reap_rule, load_rule}
+use Rattle.board.specs.Rules.{Outcome, submits, handed, hand_first, send_first, kick_from, reap_found}
 use Rattle.laws.specs.Steps.{request_of, shares_of, waiting_of, books_of, Fair, sent_by, finished_by, SendsStep, KicksStep, ReapsStep, LoadsStep, BooksFair}
 use Rattle.laws.proofs.Clocks.{waiting_sums, least_under, least_over, all_over, heads_over}
 use Rattle.laws.proofs.Keeps.{all_set, all_at}
@@ -73,9 +69,9 @@ unfolding Steps
 hands s l r rest (Ok u) k fair lane l8 near room = (shares_of s.sheet, refl, request_of r, refl, sends s l r rest k fair lane l8 near room)
 hands s l r rest (Err e) k fair lane l8 near room = rests s
 
-pub sends_step : SendsStep
+pub sends_step_lem : SendsStep
 unfolding Steps
-sends_step depth held s l k fair =
+sends_step_lem depth held s l k fair =
     cond_both (leb (length s.sheet.lanes) l) _ _ (Steps s) (λ _. rests s) (λ b. go (lane_at s l) refl (leb-false _ _ b))
   where
     go : (w : List Request) → lane_at s l ≡ w → l < length s.sheet.lanes → Steps s (send_first depth held s l w)

@@ -1,5 +1,5 @@
 -- Virtual time is the least start tag. Assumes nothing.
-use Rattle.std.proofs.Common.{◌≡◌, ℕ, ◌<◌, ◌≤◌, min, List, [], ◌∷◌, ◌++◌, map, length, sym, refl, ap, ◌∙◌, subst, ⊎_elim, arith}
+use Rattle.std.proofs.Common.{◌≡◌, ℕ, ◌<◌, ◌≤◌, List, [], ◌∷◌, ◌++◌, map, length, sym, refl, ◌∙◌, subst, ⊎_elim, arith}
 use Rattle.std.specs.List.{ContainsAt as Has, flat_map, AllByRecursion}
 use Rattle.std.proofs.ByRecursion.{has_append_right}
 use Rattle.std.proofs.lemmas.List.{map-append}
@@ -7,7 +7,6 @@ use Rattle.std.proofs.lemmas.Bool.{cases_lt}
 use Rattle.shares.specs.Events as share
 use Rattle.lanes.specs.Lanes.{starts, least}
 use Rattle.lanes.specs.declared.records.Request.{Request}
-use Rattle.books.specs.Model.{State}
 use Rattle.books.specs.Views.{state_of}
 use Rattle.laws.specs.Steps.{request_of, waiting_of, TimeIsLeast}
 use Rattle.laws.proofs.Clocks.{least_under, all_over}

@@ -1,16 +1,16 @@
 -- Each call is a step of the law's books. Assumes nothing.
-use Rattle.std.proofs.Common.{◌≡◌, ℕ, ◌+◌, ◌-◌, ◌⊎◌, List, [], ◌∷◌, ◌++◌, map, length, get_or, Some, None, Ok, Err, fold, Option, Result, sym, refl, ap, ◌∙◌, subst, inl, inr, ⊎_elim, arith, MatchResult}
+use Rattle.std.proofs.Common.{◌≡◌, ℕ, ◌+◌, ◌-◌, ◌⊎◌, List, [], ◌∷◌, ◌++◌, map, get_or, Some, None, Ok, Err, Option, Result, sym, refl, ap, ◌∙◌, subst, inl, inr, ⊎_elim, arith, MatchResult}
 use Rattle.std.proofs.lemmas.List.{map_push}
 use Rattle.std.proofs.lemmas.List.Sums.{fold_push}
 use Rattle.std.proofs.lemmas.List.Sorted.{IsPermutation-refl}
-use Rattle.sheet.specs.Sheets.{Content, content_of, blank}
+use Rattle.sheet.specs.Sheets.{content_of, blank}
 use Rattle.sheet.specs.declared.shape.Sheet.{Sheet}
 use Rattle.card.specs.declared.Card.{Ghosts}
 use Rattle.card.specs.declared.Command.{Command}
 use Rattle.shares.specs.Events as share
 use Rattle.shares.specs.Steps as step
 use Rattle.shares.proofs.Runs.{runs_push}
-use Rattle.books.specs.Model.{State, Arrival, tagged, entered, arrive_rule, empty}
+use Rattle.books.specs.Model.{State, Arrival, tagged, arrive_rule, empty}
 use Rattle.books.specs.Sound.{Sound}
 use Rattle.books.specs.Views.{state_of}
 use Rattle.books.specs.declared.refusal.Refusal.{Refusal}
@@ -26,7 +26,7 @@ use Rattle.laws.proofs.Keeps.{arrivals_step_lem}
 use Rattle.laws.proofs.Sent.{sends_step_lem, kicks_step_lem, reaps_step_lem, loads_step_lem, books_fair_lem}
 use Rattle.fly.specs.Flights.{Entry, told, event, Step, Did, Run, start, more}
 use Rattle.fly.specs.declared.call.Answer.{Answer}
-use Rattle.fly.specs.declared.call.Answer.TheVariants.{Loaded, Arrived, Moved, Reaped, VirtualTime, ReadyLanes}
+use Rattle.fly.specs.declared.call.Answer.TheVariants.{Loaded, Arrived, Moved, Reaped}
 use Rattle.fly.specs.declared.call.Call.{Call}
 use Rattle.fly.specs.declared.call.Call.TheVariants.{Load, Arrive, Send, Kick, Reap, Time, Ready, Flow}
 use Rattle.fly.proofs.Rules.{Enters, loads_empty, arrives_so, send_sheet, kick_sheet, reap_sheet, blank_arrives, blank_sends, blank_kicks}

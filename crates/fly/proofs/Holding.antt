@@ -1,5 +1,5 @@
 -- The card holds what the books say, from the first accepted load on. Assumes nothing.
-use Rattle.std.proofs.Common.{◌≡◌, ℕ, ◌+◌, ◌*◌, ◌<◌, ◌≤◌, true, false, cond, ◌||◌, eqb, ltb, leb, ◌⊎◌, List, [], ◌∷◌, ◌++◌, map, length, get_or, Some, None, Ok, Err, sum_by, Option, Result, sym, refl, ap, ◌∙◌, subst, inl, inr, ⊎_elim, arith, MatchResult}
+use Rattle.std.proofs.Common.{◌≡◌, ℕ, ◌+◌, ◌≤◌, cond, ◌||◌, eqb, ltb, leb, ◌⊎◌, List, [], ◌∷◌, map, length, Some, None, Ok, Err, sum_by, Option, Result, sym, refl, ap, ◌∙◌, subst, inl, inr, ⊎_elim, arith, MatchResult}
 use Rattle.std.proofs.lemmas.List.{nil_from_length}
 use Rattle.std.proofs.lemmas.List.Sums.{sum_by-cons}
 use Rattle.std.proofs.lemmas.Bool.{cond_both, cond-true, cond-false, eq-eqb, ltb-false, or_parts, cases_Bool}
@@ -13,7 +13,7 @@ use Rattle.card.specs.declared.Command.{Command}
 use Rattle.card.proofs.Bags.{same_sum, more_sum}
 use Rattle.shares.specs.Events as share
 use Rattle.lanes.specs.Lanes.{starts}
-use Rattle.books.specs.Model.{State, Arrival, most, flow_at, lane_at, arrive_rule, empty, ready_lanes, found, without}
+use Rattle.books.specs.Model.{State, lane_at, arrive_rule, empty, ready_lanes, found, without}
 use Rattle.lanes.specs.Records.{by_ticket, ticket_is}
 use Rattle.books.specs.Sound.{Sound}
 use Rattle.books.specs.Views.{state_of}
@@ -24,7 +24,7 @@ use Rattle.board.specs.Rules.{Outcome, Holds, stays, submits, handed, hand_first
 use Rattle.board.specs.declared.board.Board.{Board}
 use Rattle.board.proofs.Sends.{still}
 use Rattle.laws.proofs.Sent.{found_sums}
-use Rattle.fly.specs.Flights.{Entry, told, event, Step, Did, Run, start, more}
+use Rattle.fly.specs.Flights.{Entry, told, event, Step, Run, start, more}
 use Rattle.fly.specs.declared.call.Answer.{Answer}
 use Rattle.fly.specs.declared.call.Answer.TheVariants.{Loaded, Arrived, Moved, Reaped}
 use Rattle.fly.specs.declared.call.Call.{Call}

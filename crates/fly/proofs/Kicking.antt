@@ -1,29 +1,26 @@
 -- A kick sends exactly when it can. Assumes nothing.
-use Rattle.std.proofs.Common.{◌≡◌, ℕ, ◌+◌, ◌<◌, ◌≤◌, true, false, cond, eqb, ltb, leb, List, [], ◌∷◌, ◌++◌, map, length, Ok, Err, sum_by, Option, Result, sym, refl, ap, ◌∙◌, subst, arith}
-use Rattle.std.specs.List.{flat_map}
-use Rattle.std.proofs.lemmas.List.{length-map, length-append}
+use Rattle.std.proofs.Common.{◌≡◌, ℕ, zero, suc, ◌<◌, false, cond, eqb, leb, List, [], ◌∷◌, length, Ok, sum_by, Result, sym, refl, ap, ◌∙◌, subst, arith}
 use Rattle.std.proofs.lemmas.List.Sums.{sum_by-cons}
 use Rattle.std.proofs.lemmas.Bool.{cond_both, cond-true, cond-false, leb-false, lt-leb, eqb-false, eq-eqb, le-ltb}
-use Rattle.card.specs.Commands.{command, among, tally}
+use Rattle.card.specs.Commands.{among, tally}
 use Rattle.card.specs.declared.CardFault.{CardFault}
 use Rattle.card.specs.declared.Command.{Command}
 use Rattle.card.proofs.Bags.{among-tally, tally-sum}
 use Rattle.lanes.specs.Lanes.{starts}
-use Rattle.books.specs.Model.{State, lane_at, ready_lanes}
+use Rattle.books.specs.Model.{State, lane_at}
 use Rattle.lanes.specs.Records.{ticket_is}
-use Rattle.books.specs.Model.{waiting}
 use Rattle.books.specs.Sound.{Sound}
 use Rattle.lanes.specs.declared.records.Request.{Request}
 use Rattle.books.proofs.Sums.{waiting_less}
-use Rattle.board.specs.Rules.{Outcome, stays, submits, handed, hand_first, kick_from, kick_rule}
-use Rattle.laws.specs.Steps.{request_of, waiting_of}
+use Rattle.board.specs.Rules.{Outcome, submits, handed, kick_rule}
+use Rattle.laws.specs.Steps.{waiting_of}
 use Rattle.laws.proofs.Hand.{kicks_hand_lem}
 use Rattle.laws.proofs.Sent.{no_waiting}
 use Rattle.fly.specs.Flights.{told}
 use Rattle.fly.specs.Promise.{IsSent}
 use Rattle.fly.specs.declared.call.Answer.TheVariants.{Moved}
 use Rattle.fly.specs.declared.call.Call.TheVariants.{Kick}
-use Rattle.fly.proofs.Holding.{Tied, commanded}
+use Rattle.fly.proofs.Holding.{Tied}
 
 -- the card is not full, and a ticket that waits is not in it, so it takes a lead
 takes : (depth : ℕ) (held : List Command) (s : State) (k : ℕ) (r : Request) (rest : List Request) → Sound s → Tied depth s held → k < 8 → lane_at s k ≡ r ∷ rest → length s.in_card < s.sheet.slots → submits depth held r.ticket ≡ Ok tt
@@ -72,5 +69,5 @@ pub waits_lead : (ls : List (List Request)) → 0 < length (waiting_of ls) → 0
 waits_lead ls h = go (length (starts ls)) refl
   where
     go : (n : ℕ) → length (starts ls) ≡ n → 0 < length (starts ls)
-    go Prim.Native.Nat.zero e = absurd (omega (arith, h, ap length (no_waiting ls e)))
-    go (Prim.Native.Nat.suc n) e = omega (arith, e)
+    go zero e = absurd (omega (arith, h, ap length (no_waiting ls e)))
+    go (suc n) e = omega (arith, e)

@@ -1,9 +1,8 @@
 -- A flight keeps its promise. Assumes nothing.
-use Rattle.std.proofs.Common.{◌≡◌, ℕ, ◌<◌, ◌≤◌, List, [], ◌∷◌, ◌++◌, map, length, Some, None, sum_by, Option, sym, refl, ap, ◌∙◌, subst, ⊎_elim, arith}
+use Rattle.std.proofs.Common.{◌≡◌, ℕ, ◌≤◌, List, [], ◌∷◌, ◌++◌, map, length, Some, None, sum_by, Option, sym, refl, ap, ◌∙◌, subst, ⊎_elim, arith}
 use Rattle.std.specs.List.{zip}
 use Rattle.std.specs.List.Sorted.{IsPermutation}
 use Rattle.std.proofs.lemmas.List.{length-map, map_push}
-use Rattle.std.proofs.lemmas.List.Sums.{sum_by-cons}
 use Rattle.std.proofs.lemmas.List.Sorted.{length_permutation, sum_by-IsPermutation}
 use Rattle.sheet.specs.Sheets.{blank}
 use Rattle.card.specs.declared.Card.{Ghosts}
@@ -14,21 +13,18 @@ use Rattle.shares.proofs.Fairness.{law, noted}
 use Rattle.shares.proofs.Shuffles.{shuffled_from_sums, sum_by-map}
 use Rattle.books.specs.Model.{State, empty}
 use Rattle.books.specs.Views.{state_of}
-use Rattle.lanes.specs.declared.records.Request.{Request}
 use Rattle.books.proofs.Opened.{sound}
-use Rattle.board.specs.Rules.{kick_rule}
 use Rattle.board.specs.declared.board.Board.{Board}
 use Rattle.laws.specs.Steps.{request_of, shares_of, waiting_of, books_of}
-use Rattle.fly.specs.Flights.{Entry, told, event, Step, Did, Run, start, more, Reached, call_kind, answer_kind}
-use Rattle.fly.specs.Promise.{after, command_of, Holds, IsSent, CanSend, Kicks, Promise}
+use Rattle.fly.specs.Flights.{Entry, told, event, Step, Run, start, more, call_kind, answer_kind}
+use Rattle.fly.specs.Promise.{after, command_of, Holds, IsSent, Kicks, Promise}
 use Rattle.fly.specs.declared.call.Answer.{Answer}
-use Rattle.fly.specs.declared.call.Answer.TheVariants.{Moved}
 use Rattle.fly.specs.declared.call.Call.{Call}
 use Rattle.fly.specs.declared.call.Call.TheVariants.{Load, Arrive, Send, Kick, Reap, Time, Ready, Flow}
 use Rattle.fly.proofs.Events.{bare, tied}
-use Rattle.fly.proofs.Holding.{Tied, commanded, tie}
+use Rattle.fly.proofs.Holding.{Tied, tie}
 use Rattle.fly.proofs.Kicking.{can_send, has_sent, lead_waits, waits_lead}
-use Rattle.fly.proofs.Runs.{Around, around}
+use Rattle.fly.proofs.Runs.{around}
 
 commands_from_sums : (xs ys : List Command) → ((g : Command → ℕ) → sum_by g xs ≡ sum_by g ys) → IsPermutation xs ys
 commands_from_sums = shuffled_from_sums ((λ c. c.ticket) ∷ (λ c. c.sectors) ∷ []) (λ c d p. λ i. record { ticket = p.0 i; sectors = p.1.0 i })

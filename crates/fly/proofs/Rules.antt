@@ -1,5 +1,5 @@
 -- What the rules leave of a sheet, and what they answer. Assumes nothing.
-use Rattle.std.proofs.Common.{◌≡◌, ℕ, ◌+◌, true, cond, ◌||◌, eqb, ltb, leb, List, [], ◌∷◌, length, get_or, Some, None, Ok, Err, Option, Result, sym, refl, ap, ◌∙◌, subst, arith, MatchResult}
+use Rattle.std.proofs.Common.{◌≡◌, ℕ, ◌+◌, ◌||◌, eqb, ltb, leb, List, [], ◌∷◌, length, get_or, Some, None, Ok, Err, Option, Result, refl, arith, MatchResult}
 use Rattle.std.proofs.lemmas.Bool.{cond_both, cond-true, le-leb}
 use Rattle.sheet.specs.Sheets.{Content, blank}
 use Rattle.card.specs.declared.CardFault.{CardFault}

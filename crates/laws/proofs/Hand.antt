@@ -1,5 +1,5 @@
 -- A kick hands over whenever it can. Assumes nothing.
-use Rattle.std.proofs.Common.{◌≡◌, ℕ, ◌<◌, true, false, List, [], ◌∷◌, length, filter, refl, arith}
+use Rattle.std.proofs.Common.{◌≡◌, ℕ, ◌<◌, true, false, List, [], ◌∷◌, length, Some, filter, refl, arith}
 use Rattle.std.specs.List.{AllByRecursion}
 use Rattle.std.proofs.lemmas.Bool.{both_ways}
 use Rattle.heap.proofs.Sorting.{all-sorted}
@@ -15,7 +15,7 @@ lead : (s : State) (w : List Request) → ready_with s w ≡ true → (r : Reque
 lead s [] t = absurd (both_ways false refl t)
 lead s (r ∷ rest) t = (r, rest, refl)
 
-first : (P : ℕ → Type 0) (js : List ℕ) → 0 < length js → AllByRecursion P js → (j : ℕ) × (head_of js ≡ Rattle.std.specs.declared.option.Option.TheVariants.Some j) × P j
+first : (P : ℕ → Type 0) (js : List ℕ) → 0 < length js → AllByRecursion P js → (j : ℕ) × (head_of js ≡ Some j) × P j
 first P [] h a = absurd (omega (arith, h))
 first P (j ∷ js) h a = (j, refl, a.0)
 

@@ -1,4 +1,4 @@
-use Rattle.std.proofs.Common.{vec_items, sym, refl, subst, rules}
+use Rattle.std.proofs.Common.{vec_items, subst, rules}
 use Rattle.std.proofs.lemmas.List.{take_all}
 use Rattle.std.specs.List.{zip}
 use Rattle.fly.specs.Flights.{Run, start}

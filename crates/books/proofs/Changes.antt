@@ -3,7 +3,7 @@ use Rattle.std.proofs.Common.{◌≡◌, ℕ, suc, ◌+◌, ◌-◌, ◌<◌, �
 use Rattle.std.proofs.lemmas.List.{get_or-map}
 use Rattle.std.proofs.lemmas.Bool.{cond-true, and_from, lt-ltb}
 use Rattle.heap.specs.Sorting.{insert}
-use Rattle.heap.proofs.Sorting.{sumBy-insert}
+use Rattle.heap.proofs.Sorting.{sum_by-insert}
 use Rattle.charge.specs.Charge.{charge_of}
 use Rattle.charge.proofs.Charges.{laws}
 use Rattle.sheet.specs.Sheets.{FlowIn, LaneIn, flow_charge}
@@ -38,7 +38,7 @@ record_at b f = get_or b.flows f no_record
 
 module _ (b : Books) (t : ℕ) (r : Request) (c' : InCard) (out : Removes t (in_card_of b.in_card) (Some r) (in_card_of c')) where
   less : (g : Request → ℕ) → sum_by g (in_card_of b.in_card) ≡ g r + sum_by g (in_card_of c')
-  less g = ap (sum_by g) out.1 ∙ sumBy-insert by_ticket g r (in_card_of c')
+  less g = ap (sum_by g) out.1 ∙ sum_by-insert by_ticket g r (in_card_of c')
 
   -- its flow has a record, which counts it
   pub out-counted : (r.flow < 16) × (1 ≤ (record_at b r.flow).in_card)
@@ -116,7 +116,7 @@ module _ (b : Books) (l : ℕ) (r : Request) (rest : List Request) (lane : lane_
               (λ j. omega (arith, gone (flow_is j), ap (waiting (flow_is j)) left)) b.counts_waiting,
           (
             count_up (λ (y : FlowRecord). y.in_card) b.flows x no_record (λ j. sum_by (flow_is j) (state_of b).in_card) (λ j. sum_by (flow_is j) (in_card_of c')) r r.flow refl flow-there sits
-                (λ j. ap (sum_by (flow_is j)) entered-card ∙ sumBy-insert by_ticket (flow_is j) r (state_of b).in_card) b.counts_in_card,
+                (λ j. ap (sum_by (flow_is j)) entered-card ∙ sum_by-insert by_ticket (flow_is j) r (state_of b).in_card) b.counts_in_card,
             moves-sound move (sound b) lane-there room,
           ),
         )

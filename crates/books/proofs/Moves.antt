@@ -4,7 +4,7 @@ use Rattle.std.proofs.lemmas.List.{length-set, get_or-set_same, get_or-set_other
 use Rattle.std.proofs.lemmas.List.Sorted.{IsPermutation-to_front}
 use Rattle.std.proofs.lemmas.Bool.{cases_eq}
 use Rattle.heap.specs.Sorting.{insert, sorted}
-use Rattle.heap.proofs.Sorting.{length-insert, sumBy-insert, sorted-shuffled}
+use Rattle.heap.proofs.Sorting.{length-insert, sum_by-insert, sorted-shuffled}
 use Rattle.lanes.specs.Lanes.{starts}
 use Rattle.books.specs.Model.{State, lane_at, time_of, moved_from, moved}
 use Rattle.lanes.specs.Records.{by_ticket, ticket_is}
@@ -21,17 +21,17 @@ use Rattle.books.proofs.Opened.{Whole, whole}
 use Rattle.books.proofs.Sums.{waiting_less, least_high, least_again}
 
 -- the first of lane l goes into the card
-pub record Move (s : State) (l : ℕ) (r : Request) (rest : List Request) (time' : ℕ) (ends' : List ℕ) (lanes' : List (List Request)) (inCard' : List Request) : Type 0 where
+pub record Move (s : State) (l : ℕ) (r : Request) (rest : List Request) (time' : ℕ) (ends' : List ℕ) (lanes' : List (List Request)) (in_card' : List Request) : Type 0 where
   pub lead : lane_at s l ≡ r ∷ rest
   pub lanes : lanes' ≡ set s.lanes l rest
   pub time : time' ≡ time_of s lanes'
   pub ends : ends' ≡ s.ends
-  pub in_card : inCard' ≡ insert by_ticket r s.in_card
+  pub in_card : in_card' ≡ insert by_ticket r s.in_card
 
-module _ {s : State} {l : ℕ} {r : Request} {rest : List Request} {time' : ℕ} {ends' : List ℕ} {lanes' : List (List Request)} {inCard' : List Request} (h : Move s l r rest time' ends' lanes' inCard') where
-  pub moves : ◌≡◌ {A = State} (record { sheet = s.sheet; time = time'; ends = ends'; lanes = lanes'; in_card = inCard'; arrivals = s.arrivals }) (moved s l)
+module _ {s : State} {l : ℕ} {r : Request} {rest : List Request} {time' : ℕ} {ends' : List ℕ} {lanes' : List (List Request)} {in_card' : List Request} (h : Move s l r rest time' ends' lanes' in_card') where
+  pub moves : ◌≡◌ {A = State} (record { sheet = s.sheet; time = time'; ends = ends'; lanes = lanes'; in_card = in_card'; arrivals = s.arrivals }) (moved s l)
   moves =
-      let after : ◌≡◌ {A = State} (record { sheet = s.sheet; time = time'; ends = ends'; lanes = lanes'; in_card = inCard'; arrivals = s.arrivals }) (moved_from s l (r ∷ rest)) =
+      let after : ◌≡◌ {A = State} (record { sheet = s.sheet; time = time'; ends = ends'; lanes = lanes'; in_card = in_card'; arrivals = s.arrivals }) (moved_from s l (r ∷ rest)) =
       λ i. record { sheet = s.sheet; time = (h.time ∙ ap (time_of s) h.lanes) i; ends = h.ends i; lanes = h.lanes i; in_card = h.in_card i; arrivals = s.arrivals } in
       after ∙ ap (moved_from s l) (sym h.lead)
 
@@ -45,7 +45,7 @@ module _ {s : State} {l : ℕ} {r : Request} {rest : List Request} {time' : ℕ}
       let within = k.1.1.1.1.1.1.1.0 in
       let s' = moved_from s l (r ∷ rest) in
       let loses : (g : Request → ℕ) → waiting g s.lanes ≡ g r + waiting g s'.lanes = λ g. waiting_less g s.lanes l r rest (omega (arith, shaped.0, l8)) h.lead in
-      let stands : (t : ℕ) → standing s' t ≡ standing s t = λ t. omega (arith, loses (ticket_is t), sumBy-insert by_ticket (ticket_is t) r s.in_card) in
+      let stands : (t : ℕ) → standing s' t ≡ standing s t = λ t. omega (arith, loses (ticket_is t), sum_by-insert by_ticket (ticket_is t) r s.in_card) in
       let started' : Started s' = omega (arith, loses (λ (x : Request). x.start - highest s), started) in (
         (length-set s.lanes l rest ∙ shaped.0, shaped.1),
         (
@@ -75,9 +75,9 @@ module _ {s : State} {l : ℕ} {r : Request} {rest : List Request} {time' : ℕ}
         ),
       )
 
-  pub moves-sound : Sound s → l < 8 → length s.in_card < s.sheet.slots → Sound (record { sheet = s.sheet; time = time'; ends = ends'; lanes = lanes'; in_card = inCard'; arrivals = s.arrivals })
+  pub moves-sound : Sound s → l < 8 → length s.in_card < s.sheet.slots → Sound (record { sheet = s.sheet; time = time'; ends = ends'; lanes = lanes'; in_card = in_card'; arrivals = s.arrivals })
   moves-sound k l8 room =
-      let after : ◌≡◌ {A = State} (record { sheet = s.sheet; time = time'; ends = ends'; lanes = lanes'; in_card = inCard'; arrivals = s.arrivals }) (moved_from s l (r ∷ rest)) =
+      let after : ◌≡◌ {A = State} (record { sheet = s.sheet; time = time'; ends = ends'; lanes = lanes'; in_card = in_card'; arrivals = s.arrivals }) (moved_from s l (r ∷ rest)) =
       λ i. record { sheet = s.sheet; time = (h.time ∙ ap (time_of s) h.lanes) i; ends = h.ends i; lanes = h.lanes i; in_card = h.in_card i; arrivals = s.arrivals } in
       subst Sound (sym after) (moved-sound k l8 room)
 

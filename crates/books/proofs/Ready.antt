@@ -1,23 +1,23 @@
 -- The nearest ready lane by its bits is the first of the ready lanes in order. Assumes nothing.
 use Rattle.std.proofs.Common.{◌≡◌, ℕ, zero, suc, ◌+◌, ◌/◌, ◌%◌, ◌^◌, ◌<◌, ◌≤◌, min, Bool, true, false, cond, ◌&&◌, ◌||◌, eqb, ltb, ◌⊎◌, List, [], ◌∷◌, length, get_or, Some, None, sum_by, filter, Option, sym, refl, ap, ◌∙◌, subst, inl, inr, ⊎_elim, arith}
 use lib.Bits.{bit_or}
-use Rattle.std.specs.List.{AllByRecursion as All}
+use Rattle.std.specs.List.{AllByRecursion}
 use Rattle.std.proofs.lemmas.Nat.{pow_below}
 use Rattle.std.proofs.lemmas.List.Sums.{sum_by-cons}
 use Rattle.std.proofs.lemmas.Bool.{cases_Bool, cases_lt, cases_eq, cond-true, cond-false, cond_both, both_ways, or_left, or_right, and_from, lt-ltb, eq-eqb, eqb-true, ne_eqb, le-leb}
 use Rattle.heap.specs.Sorting.{upto, sorted}
-use Rattle.heap.proofs.Sorting.{First, Ordered, upto_either, upto_alike, ordered-sorted, all-sorted, sumBy-sorted, length-sorted, none_before}
+use Rattle.heap.proofs.Sorting.{First, Ordered, upto_either, upto_alike, ordered-sorted, all-sorted, sum_by-sorted, length-sorted, none_before}
 use Rattle.near.specs.Lanes.{distance, table, In, Nearest}
 use Rattle.near.proofs.Sets.{bit_old, bit_new, bit_none, bit_fits}
 use Rattle.lanes.specs.Lanes.{head_of, starts, least}
 use Rattle.books.specs.Model.{State, lane_at, time_of, ready, ready_with, ready_lanes, eight}
 use Rattle.lanes.specs.declared.records.Request.{Request}
 
-pub all_kept : (p : ℕ → Bool) (P : ℕ → Type 0) (xs : List ℕ) → All (λ x. p x ≡ true → P x) xs → All P (filter p xs)
+pub all_kept : (p : ℕ → Bool) (P : ℕ → Type 0) (xs : List ℕ) → AllByRecursion (λ x. p x ≡ true → P x) xs → AllByRecursion P (filter p xs)
 all_kept p P [] h = tt
-all_kept p P (x ∷ xs) h = cond_both (p x) (x ∷ filter p xs) (filter p xs) (All P) (λ t. (h.0 t, all_kept p P xs h.1)) (λ _. all_kept p P xs h.1)
+all_kept p P (x ∷ xs) h = cond_both (p x) (x ∷ filter p xs) (filter p xs) (AllByRecursion P) (λ t. (h.0 t, all_kept p P xs h.1)) (λ _. all_kept p P xs h.1)
 
-none_kept : (p : ℕ → Bool) (xs : List ℕ) → All (λ x. p x ≡ false) xs → filter p xs ≡ []
+none_kept : (p : ℕ → Bool) (xs : List ℕ) → AllByRecursion (λ x. p x ≡ false) xs → filter p xs ≡ []
 none_kept p [] h = refl
 none_kept p (x ∷ xs) h = cond-false (p x) _ _ h.0 ∙ none_kept p xs h.1
 
@@ -39,11 +39,11 @@ itself (suc (suc (suc (suc (suc (suc zero)))))) l = refl
 itself (suc (suc (suc (suc (suc (suc (suc zero))))))) l = refl
 itself (suc (suc (suc (suc (suc (suc (suc (suc k)))))))) l = absurd (omega (arith, l))
 
-pub each : (P : ℕ → Type 0) → ((k : ℕ) → k < 8 → P k) → All P eight
+pub each : (P : ℕ → Type 0) → ((k : ℕ) → k < 8 → P k) → AllByRecursion P eight
 each P h = (h 0 (omega arith), (h 1 (omega arith), (h 2 (omega arith), (h 3 (omega arith), (h 4 (omega arith), (h 5 (omega arith), (h 6 (omega arith), (h 7 (omega arith), tt))))))))
 
 module _ (by : ℕ → List ℕ) (tell : (x y : ℕ) → by x ≡ by y → x ≡ y) where
-  head-is : (k : ℕ) (w : List ℕ) → Ordered by w → All (First by k) w → ((g : ℕ → ℕ) → g k ≤ sum_by g w) → head_of w ≡ Some k
+  head-is : (k : ℕ) (w : List ℕ) → Ordered by w → AllByRecursion (First by k) w → ((g : ℕ → ℕ) → g k ≤ sum_by g w) → head_of w ≡ Some k
   head-is k [] o a h = absurd (omega (arith, h (λ _. 1)))
   head-is k (y ∷ ys) o a h =
       let g : ℕ → ℕ = λ z. cond (upto (by y) (by z)) 0 1 in
@@ -54,7 +54,7 @@ module _ (by : ℕ → List ℕ) (tell : (x y : ℕ) → by x ≡ by y → x ≡
   first-kept : (p : ℕ → Bool) (k : ℕ) → k < 8 → p k ≡ true → ((j : ℕ) → j < 8 → p j ≡ true → First by k j) → head_of (sorted by (filter p eight)) ≡ Some k
   first-kept p k l t h =
       head-is k (sorted by (filter p eight)) (ordered-sorted by (filter p eight)) (all-sorted by (First by k) (filter p eight) (all_kept p (First by k) eight (each (λ j. p j ≡ true → First by k j) h)))
-      (λ g. omega (arith, sumBy-sorted by g (filter p eight), kept_le g p eight k 0 l (ap p (itself k l) ∙ t), ap g (itself k l)))
+      (λ g. omega (arith, sum_by-sorted by g (filter p eight), kept_le g p eight k 0 l (ap p (itself k l) ∙ t), ap g (itself k l)))
 
 -- what the bits say
 abbrev Bits : State → ℕ → Type 0

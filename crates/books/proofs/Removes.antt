@@ -3,7 +3,7 @@ use Rattle.std.proofs.Common.{◌≡◌, ℕ, suc, ◌+◌, ◌<◌, ◌≤◌, 
 use Rattle.std.proofs.lemmas.List.Sums.{sum_by-cons}
 use Rattle.std.proofs.lemmas.Bool.{cond-true, cond-false, cond_both, eq-eqb, ne_eqb, cases_eq}
 use Rattle.heap.specs.Sorting.{insert, upto}
-use Rattle.heap.proofs.Sorting.{length-insert, sumBy-insert}
+use Rattle.heap.proofs.Sorting.{length-insert, sum_by-insert}
 use Rattle.lanes.specs.Records.{by_ticket, ticket_is}
 use Rattle.lanes.specs.Table.{Removes}
 use Rattle.lanes.specs.declared.records.Request.{Request}
@@ -56,7 +56,7 @@ with_in_card s c = record { sheet = s.sheet; time = s.time; ends = s.ends; lanes
 pub removed_sound : (s : State) (t : ℕ) (ys : List Request) (r : Option Request) → Removes t s.in_card r ys → Sound s → Sound (with_in_card s ys)
 removed_sound s t ys None h k = subst (λ c. Sound (with_in_card s c)) (sym h.0) k
 removed_sound s t ys (Some x) h k =
-    let fewer : (u : ℕ) → sum_by (ticket_is u) ys ≤ sum_by (ticket_is u) s.in_card = λ u. omega (arith, ap (sum_by (ticket_is u)) h.1, sumBy-insert by_ticket (ticket_is u) x ys) in (
+    let fewer : (u : ℕ) → sum_by (ticket_is u) ys ≤ sum_by (ticket_is u) s.in_card = λ u. omega (arith, ap (sum_by (ticket_is u)) h.1, sum_by-insert by_ticket (ticket_is u) x ys) in (
       k.0,
       (
         k.1.0,

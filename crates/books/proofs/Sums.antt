@@ -2,7 +2,7 @@
 use Rattle.std.proofs.Common.{◌≡◌, ℕ, ◌+◌, ◌-◌, ◌<◌, ◌≤◌, List, [], ◌∷◌, length, get_or, set, sum_by, sym, refl, ap, ◌∙◌, arith}
 use Rattle.std.proofs.lemmas.List.Sums.{sum_by-cons, sum_by-set}
 use Rattle.heap.specs.Sorting.{insert}
-use Rattle.heap.proofs.Sorting.{sumBy-insert}
+use Rattle.heap.proofs.Sorting.{sum_by-insert}
 use Rattle.lanes.specs.Lanes.{starts, least}
 use Rattle.lanes.specs.Records.{by_start}
 use Rattle.books.specs.Model.{waiting}
@@ -17,7 +17,7 @@ waiting_mono g h ls t = sum_by_mono (sum_by g) (sum_by h) ls (λ xs. sum_by_mono
 
 -- one more in lane l
 pub waiting_more : (g : Request → ℕ) (ls : List (List Request)) (l : ℕ) (r : Request) → l < length ls → waiting g (set ls l (insert by_start r (get_or ls l []))) ≡ g r + waiting g ls
-waiting_more g ls l r b = omega (arith, sum_by-set (sum_by g) ls l (insert by_start r (get_or ls l [])) [] b, sumBy-insert by_start g r (get_or ls l []))
+waiting_more g ls l r b = omega (arith, sum_by-set (sum_by g) ls l (insert by_start r (get_or ls l [])) [] b, sum_by-insert by_start g r (get_or ls l []))
 
 -- one less
 pub waiting_less : (g : Request → ℕ) (ls : List (List Request)) (l : ℕ) (r : Request) (rest : List Request) → l < length ls → get_or ls l [] ≡ r ∷ rest → waiting g ls ≡ g r + waiting g (set ls l rest)

@@ -5,7 +5,7 @@ use Rattle.std.proofs.lemmas.List.Sums.{sum_by-cons}
 use Rattle.std.proofs.lemmas.Bool.{cond_both, cond-true, cond-false, eq-eqb, ltb-false, or_parts, cases_Bool}
 use Rattle.sheet.specs.Sheets.{Content, content_of, blank}
 use Rattle.sheet.specs.declared.shape.Sheet.{Sheet}
-use Rattle.heap.proofs.Sorting.{sumBy-insert}
+use Rattle.heap.proofs.Sorting.{sum_by-insert}
 use Rattle.card.specs.Commands.{command, Finished}
 use Rattle.card.specs.declared.CardFault.{CardFault}
 use Rattle.card.specs.declared.Card.{Ghosts}
@@ -53,7 +53,7 @@ carries_stays depth s a before after k h = record { same = λ g. same_sum g befo
 carries_handed : (depth : ℕ) (s : State) (l : ℕ) (r : Request) (rest : List Request) (v : Result (Unit {0}) CardFault) → Carries depth s (handed s l r rest v)
 unfolding Carries
 carries_handed depth s l r rest (Ok u) before after k h = record {
-  same = λ g. omega (arith, more_sum g (commanded r) before after h, k.same g, sumBy-insert by_ticket (λ (q : Request). g (commanded q)) r s.in_card);
+  same = λ g. omega (arith, more_sum g (commanded r) before after h, k.same g, sum_by-insert by_ticket (λ (q : Request). g (commanded q)) r s.in_card);
   deep = k.deep;
 }
 carries_handed depth s l r rest (Err e) before after k h = record { same = λ g. same_sum g before after h ∙ k.same g; deep = k.deep }

@@ -47,15 +47,15 @@ upto_alike (a ∷ as') (b ∷ bs) p q =
     (λ d h. split b a bs as' q (λ m. absurd (omega (arith, ltb-true b a m))) (λ e k. λ i. d i ∷ upto_alike as' bs h k i))
 
 module _ {X : Type 0} (by : X → List ℕ) where
-  pub sumBy-insert : (g : X → ℕ) (x : X) (ys : List X) → sum_by g (insert by x ys) ≡ g x + sum_by g ys
-  sumBy-insert g x [] = sum_by-cons g x []
-  sumBy-insert g x (y ∷ ys) = cond_both (upto (by x) (by y)) (x ∷ y ∷ ys) (y ∷ insert by x ys) (λ l. sum_by g l ≡ g x + sum_by g (y ∷ ys))
+  pub sum_by-insert : (g : X → ℕ) (x : X) (ys : List X) → sum_by g (insert by x ys) ≡ g x + sum_by g ys
+  sum_by-insert g x [] = sum_by-cons g x []
+  sum_by-insert g x (y ∷ ys) = cond_both (upto (by x) (by y)) (x ∷ y ∷ ys) (y ∷ insert by x ys) (λ l. sum_by g l ≡ g x + sum_by g (y ∷ ys))
       (λ _. sum_by-cons g x (y ∷ ys))
-      (λ _. omega (arith, sum_by-cons g y (insert by x ys), sum_by-cons g y ys, sumBy-insert g x ys))
+      (λ _. omega (arith, sum_by-cons g y (insert by x ys), sum_by-cons g y ys, sum_by-insert g x ys))
 
-  pub sumBy-sorted : (g : X → ℕ) (xs : List X) → sum_by g (sorted by xs) ≡ sum_by g xs
-  sumBy-sorted g [] = refl
-  sumBy-sorted g (x ∷ xs) = omega (arith, sumBy-insert g x (sorted by xs), sumBy-sorted g xs, sum_by-cons g x xs)
+  pub sum_by-sorted : (g : X → ℕ) (xs : List X) → sum_by g (sorted by xs) ≡ sum_by g xs
+  sum_by-sorted g [] = refl
+  sum_by-sorted g (x ∷ xs) = omega (arith, sum_by-insert g x (sorted by xs), sum_by-sorted g xs, sum_by-cons g x xs)
 
   pub length-insert : (x : X) (ys : List X) → length (insert by x ys) ≡ suc (length ys)
   length-insert x [] = refl
@@ -126,11 +126,11 @@ module _ {X : Type 0} (by : X → List ℕ) where
 
     pub sorted-shuffled : (xs ys : List X) → IsPermutation xs ys → sorted by ys ≡ sorted by xs
     sorted-shuffled xs ys s = same-ordered (sorted by ys) (sorted by xs) (ordered-sorted ys) (ordered-sorted xs)
-        (λ g. sumBy-sorted g ys ∙ sum_by-IsPermutation g xs ys s ∙ sym (sumBy-sorted g xs))
+        (λ g. sum_by-sorted g ys ∙ sum_by-IsPermutation g xs ys s ∙ sym (sum_by-sorted g xs))
 
 pub sorting_stands_lem : (X : Type 0) (by : X → List ℕ) → SortingStands X by
 sorting_stands_lem X by = record {
   sorts = λ xs. record { same = shuffled-sorted by xs; ordered = ordered-sorted by xs };
   inserts = λ x ys o. record { same = shuffled-insert by x ys; ordered = ordered-insert by x ys o };
-  unique = λ tell xs ys h. same-ordered by tell ys (sorted by xs) h.ordered (ordered-sorted by xs) (λ g. sum_by-IsPermutation g xs ys h.same ∙ sym (sumBy-sorted by g xs));
+  unique = λ tell xs ys h. same-ordered by tell ys (sorted by xs) h.ordered (ordered-sorted by xs) (λ g. sum_by-IsPermutation g xs ys h.same ∙ sym (sum_by-sorted by g xs));
 }

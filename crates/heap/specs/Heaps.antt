@@ -37,7 +37,7 @@ module _ {X : Type 0} (upto : X → X → Bool) where
   Lifted xs h p x false ys = (ys ≡ xs) × (Rising (slice_set xs h x) h → Heaped (slice_set xs h x))
 
   -- In what follows the first n of the items xs are held before, and the first m of ys after; n may pass the end, and then all of xs are held.
-  -- `Shuffled` says that two lists have the same records, each as often.
+  -- `IsPermutation` says that two lists have the same records, each as often.
 
   -- nothing was changed
   abbrev pub Stayed : List X → ℕ → List X → ℕ → Type 0

@@ -5,7 +5,7 @@ use Rattle.std.proofs.lemmas.List.Sorted.{IsPermutation-to_front}
 use Rattle.std.proofs.lemmas.List.Sums.{sum_by-cons, sum_by_more, sum_by-set}
 use Rattle.std.proofs.lemmas.Bool.{cases_eq, cond-true, cond-false, eq-eqb, ne_eqb}
 use Rattle.heap.specs.Sorting.{insert, sorted}
-use Rattle.heap.proofs.Sorting.{ordered-sorted, same-ordered, sorted-shuffled, sumBy-sorted}
+use Rattle.heap.proofs.Sorting.{ordered-sorted, same-ordered, sorted-shuffled, sum_by-sorted}
 use Rattle.lanes.specs.Records.{by_ticket, ticket_is}
 use Rattle.lanes.specs.Table.{Removes}
 use Rattle.lanes.specs.declared.records.Request.{Request}
@@ -43,6 +43,6 @@ removes xs n m i t d e l b s =
     let all : (g : Request → ℕ) → sum_by g (take n xs) ≡ g x + sum_by g rest = λ g. filled g xs n m i d e l b in (
       s,
       same-ordered by_ticket told_by_ticket (sorted by_ticket (take n xs)) (sorted by_ticket (x ∷ rest)) (ordered-sorted by_ticket (take n xs)) (ordered-sorted by_ticket (x ∷ rest))
-          (λ g. omega (arith, sumBy-sorted by_ticket g (take n xs), all g, sumBy-sorted by_ticket g (x ∷ rest), sum_by-cons g x rest)),
-      λ one. omega (arith, one, sumBy-sorted by_ticket (ticket_is t) (take n xs), sumBy-sorted by_ticket (ticket_is t) rest, all (ticket_is t), cond-true {A = ℕ} (eqb x.ticket t) 1 0 (eq-eqb x.ticket t s)),
+          (λ g. omega (arith, sum_by-sorted by_ticket g (take n xs), all g, sum_by-sorted by_ticket g (x ∷ rest), sum_by-cons g x rest)),
+      λ one. omega (arith, one, sum_by-sorted by_ticket (ticket_is t) (take n xs), sum_by-sorted by_ticket (ticket_is t) rest, all (ticket_is t), cond-true {A = ℕ} (eqb x.ticket t) 1 0 (eq-eqb x.ticket t s)),
     )

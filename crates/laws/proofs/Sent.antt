@@ -10,7 +10,7 @@ use Rattle.std.proofs.lemmas.Bool.{cond_both, cond-true, cond-false, leb-true, l
 use Rattle.sheet.proofs.Fits.{all_of_at, flow_fits_lem}
 use Rattle.sheet.specs.Ranges.{flow_fits}
 use Rattle.sheet.specs.Sheets.{no_flow}
-use Rattle.heap.proofs.Sorting.{Ordered, ordered-sorted, sumBy-insert, all-sorted}
+use Rattle.heap.proofs.Sorting.{Ordered, ordered-sorted, sum_by-insert, all-sorted}
 use Rattle.card.specs.declared.CardFault.{CardFault}
 use Rattle.shares.specs.Events as share
 use Rattle.shares.specs.Steps as step
@@ -41,7 +41,7 @@ sends s l r rest k fair lane l8 near room =
     let loses : IsPermutation (waiting_of s.lanes) (request_of r ∷ waiting_of s'.lanes) = requests_from_sums (waiting_of s.lanes) (request_of r ∷ waiting_of s'.lanes)
     (λ g. omega (arith, sum_by-cons g (request_of r) (waiting_of s'.lanes), waiting_sums g s.lanes, waiting_sums g s'.lanes, waiting_less (λ (q : Request). g (request_of q)) s.lanes l r rest (omega (arith, k.0.0, l8)) lane)) in
     let gains : IsPermutation (request_of r ∷ map request_of s.in_card) (map request_of s'.in_card) = requests_from_sums (request_of r ∷ map request_of s.in_card) (map request_of s'.in_card)
-    (λ g. omega (arith, sum_by-cons g (request_of r) (map request_of s.in_card), sum_by-map request_of g s.in_card, sum_by-map request_of g s'.in_card, sumBy-insert by_ticket (λ (q : Request). g (request_of q)) r s.in_card)) in
+    (λ g. omega (arith, sum_by-cons g (request_of r) (map request_of s.in_card), sum_by-map request_of g s.in_card, sum_by-map request_of g s'.in_card, sum_by-insert by_ticket (λ (q : Request). g (request_of q)) r s.in_card)) in
     let timely = k.1.1.1.1.1.1.1.1.1.0 in
     let over : AllByRecursion (λ (q : share.Request). s.time ≤ q.start) (waiting_of s.lanes) = all_over s.time s.lanes (subst (λ v. AllByRecursion (λ n. v ≤ n) (starts s.lanes)) timely (least_under s.time (starts s.lanes))) fair.3 in
     let over' = (all_shuffled (λ (q : share.Request). s.time ≤ q.start) (waiting_of s.lanes) (request_of r ∷ waiting_of s'.lanes) loses over).1 in

@@ -1,6 +1,6 @@
 use Rattle.std.proofs.Common.{take, sum_by, ap, ◌∙◌, arith}
 use Rattle.std.proofs.lemmas.List.{get_or_default}
-use Rattle.heap.proofs.Sorting.{sumBy-sorted}
+use Rattle.heap.proofs.Sorting.{sum_by-sorted}
 use Rattle.lanes.specs.Records.{by_ticket, no_request, ticket_is}
 use Rattle.lanes.specs.declared.records.Request.{Request}
 use Rattle.lanes.proofs.Removed.{passed}
@@ -19,4 +19,4 @@ returns-then-self-i c =
 pub returns : goal.returns
 returns c =
     let t = c.args.self.now in
-    sumBy-sorted by_ticket (ticket_is c.args.ticket) (take t.count t.slots) ∙ ap (λ k. sum_by (ticket_is c.args.ticket) (take k t.slots)) (omega arith) ∙ c.loop-i.invariant
+    sum_by-sorted by_ticket (ticket_is c.args.ticket) (take t.count t.slots) ∙ ap (λ k. sum_by (ticket_is c.args.ticket) (take k t.slots)) (omega arith) ∙ c.loop-i.invariant

@@ -1,15 +1,15 @@
 -- The commands of several banks together: where a ticket can be, one command more or less, and how many they are.
-use Rattle.std.proofs.Common.{◌≡◌, ℕ, zero, suc, ◌+◌, ◌-◌, ◌%◌, ◌<◌, ◌≤◌, Bool, true, false, cond, ◌||◌, eqb, ltb, ◌⊎◌, List, [], ◌∷◌, ◌++◌, map, length, get_or, set, Some, None, Ok, Err, Option, sym, refl, ap, ◌∙◌, subst, inl, inr, ⊎_elim, arith, lt-ltb, ne_eqb}
+use Rattle.std.proofs.Common.{◌≡◌, ℕ, zero, suc, ◌-◌, ◌%◌, ◌<◌, ◌≤◌, Bool, true, false, ◌||◌, eqb, List, [], ◌∷◌, ◌++◌, map, length, get_or, set, Some, Ok, Err, sym, refl, ap, ◌∙◌, subst, ⊎_elim, arith, lt-ltb, ne_eqb}
 use borrow.Author.Tests.{clash}
-use Rattle.std.proofs.lemmas.List.{length-append, length-map, length-set, get_or-set_same, get_or-set_other, map_push}
+use Rattle.std.proofs.lemmas.List.{length-append, length-map, get_or-set_same, get_or-set_other, map_push}
 use Rattle.std.proofs.lemmas.Bool.{cases_eq}
 use Rattle.card.specs.declared.Command.{Command}
 use Rattle.card.specs.declared.CardFault.TheVariants.{HeldAlready}
 use Rattle.card.specs.Commands.{among, command, More}
-use Rattle.card.proofs.Bags.{Plus, here, plus_end, plus_before, plus_after, more_plus, more_length}
+use Rattle.card.proofs.Bags.{Plus, here, plus_end, plus_before, plus_after, more_plus}
 use Rattle.ring.specs.Rings.{head_of, tail_of}
 use Rattle.bank.proofs.Picks.{oldest_ready, seen_some}
-use Rattle.bank.specs.Jobs.{Job, job, fresh, commands_in, commands_all, lowered, ready}
+use Rattle.bank.specs.Jobs.{Job, fresh, commands_in, commands_all, lowered, ready}
 use Rattle.bank.specs.Rules.{put_in, first_ready, answer_of, submit_rule}
 
 -- each bank has only tickets of its own

@@ -1,5 +1,5 @@
 -- One finish of a bank card: the banks are lowered, and a job may be taken out.
-use Rattle.std.proofs.Common.{◌≡◌, ℕ, ◌-◌, ◌<◌, ◌≤◌, List, [], ◌∷◌, map, length, get_or, set, Some, None, Option, sym, refl, ap, ◌∙◌, subst, arith, length-set}
+use Rattle.std.proofs.Common.{◌≡◌, ℕ, ◌-◌, ◌<◌, ◌≤◌, List, [], map, length, get_or, set, Some, None, Option, sym, ap, ◌∙◌, subst, arith, length-set}
 use Rattle.std.proofs.lemmas.List.{length-map}
 use Rattle.card.specs.Commands.{More, Same, Finished}
 use Rattle.card.proofs.Bags.{more_length, same_refl}
@@ -8,7 +8,7 @@ use Rattle.bank.specs.declared.bank.Bank.{Bank}
 use Rattle.bank.specs.Jobs.{Job, commands_all, lowered}
 use Rattle.bank.specs.Rules.{answer_of, first_ready, take_from, finish_rule}
 use Rattle.bank.specs.Views.{banks_of}
-use Rattle.bank.proofs.Bagged.{Placed, Taken, taken, all_lowered, placed_lowered, placed_taken}
+use Rattle.bank.proofs.Bagged.{Placed, Taken, all_lowered, placed_lowered, placed_taken}
 use Rattle.bank.proofs.Four.{length_banks}
 
 -- what every bank card keeps

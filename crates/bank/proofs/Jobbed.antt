@@ -1,8 +1,8 @@
 -- The jobs of one bank, from its commands and the work left on the oldest.
-use Rattle.std.proofs.Common.{◌≡◌, ℕ, suc, Bool, true, false, cond, ltb, List, [], ◌∷◌, ◌++◌, map, length, sym, refl, ap, ◌∙◌, arith}
+use Rattle.std.proofs.Common.{◌≡◌, ℕ, suc, Bool, true, false, cond, ltb, List, [], ◌∷◌, ◌++◌, map, length, refl, ap, arith}
 use Rattle.std.proofs.lemmas.List.{length-map, map_push}
 use Rattle.card.specs.declared.Command.{Command}
-use Rattle.bank.specs.Jobs.{Job, job, work_of, fresh, commands_in}
+use Rattle.bank.specs.Jobs.{job, work_of, fresh, commands_in}
 use Rattle.bank.specs.Views.{jobs_from}
 
 commands_fresh : (cs : List Command) → commands_in (map fresh cs) ≡ cs

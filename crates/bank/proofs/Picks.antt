@@ -3,9 +3,9 @@ use Rattle.std.proofs.Common.{◌≡◌, ℕ, zero, suc, ◌+◌, ◌-◌, ◌<�
 use borrow.Author.Tests.{clash, eqb-false}
 use Rattle.std.proofs.lemmas.List.{get_or-set_same, get_or-set_other}
 use Rattle.ring.specs.Rings.{head_of, tail_of}
-use Rattle.bank.specs.Jobs.{Job, work_of, lowered, ready}
-use Rattle.bank.specs.Rules.{answer_of, first_ready, take_from, finish_rule}
-use Rattle.bank.specs.Laws.{Waits, Left, Answered, Laws}
+use Rattle.bank.specs.Jobs.{Job, lowered, ready}
+use Rattle.bank.specs.Rules.{answer_of, first_ready, take_from}
+use Rattle.bank.specs.Laws.{Waits, Answered, Laws}
 
 waits : (jobs : List Job) → ready jobs ≡ false → Waits jobs
 waits [] h = tt

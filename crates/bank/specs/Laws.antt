@@ -1,5 +1,5 @@
 -- What the rules of a bank card come to, in words of its banks.
-use Rattle.std.specs.Prelude.{◌≡◌, ℕ, ◌+◌, ◌*◌, ◌<◌, ◌≤◌, List, [], ◌∷◌, map, get_or, Some, None, Option, ◌≢◌, slice_index_or}
+use Rattle.std.specs.Prelude.{◌≡◌, ℕ, ◌+◌, ◌*◌, ◌<◌, ◌≤◌, List, [], ◌∷◌, map, Some, None, Option, ◌≢◌, slice_index_or}
 use Rattle.bank.specs.Jobs.{Job, work_of, lowered}
 use Rattle.bank.specs.Rules.{finish_rule}
 
@@ -10,7 +10,7 @@ Waits (j ∷ jobs) = 0 < j.left
 
 -- just the oldest job j leaves bank b, and the other banks stay as they are
 pub record Left (banks : List (List Job)) (b : ℕ) (j : Job) (after : List (List Job)) : Type 0 where
-  pub bank : get_or banks b [] ≡ j ∷ slice_index_or after b []
+  pub bank : slice_index_or banks b [] ≡ j ∷ slice_index_or after b []
   pub others : (k : ℕ) → (k ≢ b) → slice_index_or after k [] ≡ slice_index_or banks k []
 
 -- nothing, where every bank waits; else the oldest command of the lowest bank that does not wait, with status 0

@@ -1,4 +1,4 @@
-use Rattle.std.proofs.Common.{◌≡◌, ltb, length, sym, ap, ◌∙◌, arith}
+use Rattle.std.proofs.Common.{◌≡◌, ltb, length, sym, ap, ◌∙◌}
 use Rattle.ring.specs.Rings.{commands_of}
 use Rattle.bank.specs.Jobs.{work_of}
 use Rattle.bank.proofs.Jobbed.{jobs_push, length_jobs}

@@ -14,28 +14,32 @@ returns-then-contains c =
     let banks = banks_of card.banks.banks in
     let t = c.args.ticket in
     let room : length (commands_all banks) < 32 = omega (arith, card.counted) in
-    let held : among t (commands_all banks) ≡ true = among_placed t banks (length_banks card.banks.banks ∙ card.four) card.placed ∙ sym (c.if-contains.ensures ∙ ap (λ b. among t (commands_in (get_or banks b []))) c.bank-of-b.ensures) in
+    let held : among t (commands_all banks) ≡ true = among_placed t banks (length_banks card.banks.banks ∙ card.four) card.placed ∙ sym (c.if-contains.ensures ∙ ap (λ b. among t (commands_in (get_or banks b []))) c.bank_of-b.ensures) in
     let rule = submit_held banks t c.args.sectors room held in
     record { card = (room, held, same_refl (commands_all banks)); answer = sym (ap (λ p. p.0) rule); banks = sym (ap (λ p. p.1) rule) }
 
 pub push-requires : goal.push-requires
 push-requires c =
     let card = c.args.self.now in
-    record { there = omega arith; room = omega (arith, card.counted, bank_le (banks_of card.banks.banks) c.bank-of-b.result) }
+    record { there = omega arith; room = omega (arith, card.counted, bank_le (banks_of card.banks.banks) c.bank_of-b.result) }
 
-pub invariant-of-self : goal.invariant-of-self
-invariant-of-self c =
+pub invariant_of-self : goal.invariant_of-self
+invariant_of-self c =
     let card = c.args.self.now in
     let banks = banks_of card.banks.banks in
     let t = c.args.ticket in
     let n = c.args.sectors in
     let after = banks_of c.push.new.self.banks in
     let four : length banks ≡ 4 = length_banks card.banks.banks ∙ card.four in
-    let put : after ≡ put_in banks (t % 4) (fresh (command t n)) = c.push.ensures ∙ ap (λ b. put_in banks b (fresh (command t n))) c.bank-of-b.ensures in
+    let put : after ≡ put_in banks (t % 4) (fresh (command t n)) = c.push.ensures ∙ ap (λ b. put_in banks b (fresh (command t n))) c.bank_of-b.ensures in
     let long : length after ≡ 4 = ap length put ∙ simp length-set four in
     let more : More (command t n) (commands_all banks) (commands_all after) = subst (λ bs. More (command t n) (commands_all banks) (commands_all bs)) (sym put) (more_put banks (t % 4) (command t n) (omega arith)) in
     let count = more_length (command t n) (commands_all banks) (commands_all after) more in
-    (sym (length_banks c.push.new.self.banks) ∙ long, (ap (λ k. k + 1) card.counted ∙ sym count, (subst Placed (sym put) (placed_put banks (command t n) four card.placed), tt)))
+    record {
+      four = sym (length_banks c.push.new.self.banks) ∙ long;
+      counted = ap (λ k. k + 1) card.counted ∙ sym count;
+      placed = subst Placed (sym put) (placed_put banks (command t n) four card.placed);
+    }
 
 pub returns : goal.returns
 returns c =
@@ -45,9 +49,9 @@ returns c =
     let n = c.args.sectors in
     let after = banks_of c.push.new.self.banks in
     let four : length banks ≡ 4 = length_banks card.banks.banks ∙ card.four in
-    let put : after ≡ put_in banks (t % 4) (fresh (command t n)) = c.push.ensures ∙ ap (λ b. put_in banks b (fresh (command t n))) c.bank-of-b.ensures in
+    let put : after ≡ put_in banks (t % 4) (fresh (command t n)) = c.push.ensures ∙ ap (λ b. put_in banks b (fresh (command t n))) c.bank_of-b.ensures in
     let room : length (commands_all banks) < 32 = omega (arith, card.counted) in
-    let new : among t (commands_all banks) ≡ false = among_placed t banks four card.placed ∙ sym (c.if-contains.ensures ∙ ap (λ b. among t (commands_in (get_or banks b []))) c.bank-of-b.ensures) in
+    let new : among t (commands_all banks) ≡ false = among_placed t banks four card.placed ∙ sym (c.if-contains.ensures ∙ ap (λ b. among t (commands_in (get_or banks b []))) c.bank_of-b.ensures) in
     let more : More (command t n) (commands_all banks) (commands_all after) = subst (λ bs. More (command t n) (commands_all banks) (commands_all bs)) (sym put) (more_put banks (t % 4) (command t n) (omega arith)) in
     let rule = submit_put banks t n room new in
     record { card = (room, new, more); answer = sym (ap (λ p. p.0) rule); banks = put ∙ sym (ap (λ p. p.1) rule) }

@@ -1,26 +1,25 @@
 -- What a refusal's number and line say of a text.
-use Rattle.std.proofs.Common.{◌≡◌, ℕ, zero, suc, ◌+◌, ◌-◌, ◌<◌, ◌≤◌, Bool, true, false, cond, ◌&&◌, ltb, ◌⊎◌, List, [], ◌∷◌, ◌++◌, length, replicate, IfErr, Some, None, Ok, Err, decimal, Result, sym, refl, ap, ◌∙◌, subst, inl, inr, ⊎_elim, append_assoc, append-nil, arith, MatchResult}
+use Rattle.std.proofs.Common.{◌≡◌, ℕ, zero, suc, ◌+◌, ◌-◌, ◌<◌, ◌≤◌, Bool, true, false, cond, ltb, ◌⊎◌, List, [], ◌∷◌, ◌++◌, length, replicate, IfErr, Ok, Err, decimal, Result, sym, refl, ap, ◌∙◌, subst, inl, inr, ⊎_elim, append_assoc, append-nil, arith, MatchResult}
 use Rattle.std.proofs.lemmas.List.{append_cancel_left, append_cancel_right, length-append, length-replicate}
 use Rattle.std.proofs.lemmas.Result.{MatchResult-at_err, MatchResult-at_ok}
-use Rattle.std.proofs.lemmas.Bool.{and_parts, and_from, cond-true, cond-false, le-ltb, ltb-true, ltb-false, cases_Bool, false≢true}
+use Rattle.std.proofs.lemmas.Bool.{and_parts, and_from, cond-false, le-ltb, ltb-true, ltb-false}
 use Rattle.sheet.specs.declared.flow.Flow.{Flow}
 use Rattle.sheet.specs.Ranges.{flow_fits, lane_fits, all_of}
 use Rattle.sheet.specs.declared.shape.Sheet.{Sheet}
-use Rattle.sheet.specs.Sheets.{Content, Fits, content_of}
+use Rattle.sheet.specs.Sheets.{Content, content_of}
 use Rattle.reader.specs.Views.{Reads}
 use Rattle.reader.specs.declared.draft.Section.{Section}
 use Rattle.reader.specs.declared.draft.Section.TheVariants.{Flows, Lanes, Params}
-use Rattle.reader.specs.declared.fault.Refusal.{Refusal}
 use Rattle.reader.specs.declared.fault.Refusal.TheVariants.{TooLong, Extra}
 use Rattle.reader.specs.declared.fault.SheetFault.{SheetFault}
 use Rattle.reader.specs.Account.{first_lines, CanBecome, Stuck, AtLine, OfALine, Broken, Longer, Account}
 use Rattle.reader.specs.Format.{Read, fault, and_then, line_as, lines_into, section, start, sections, ended, sheet_from, read_sheet}
-use Rattle.reader.specs.Grammar.{head_line, flow_line, param_line, lines_of, section_of, sheet_text, Stands, neither, just_d, just_t, both, Text, TextOnlyOf, NoText}
+use Rattle.reader.specs.Grammar.{head_line, flow_line, param_line, lines_of, section_of, sheet_text, Stands, neither, just_d, both, Text, TextOnlyOf, NoText}
 use Rattle.reader.specs.Lines.{Progress, letter_of, most_of, count_of, line_into}
-use Rattle.reader.proofs.Forms.{add_flows, add_lanes, count_writes}
-use Rattle.reader.proofs.Locals.{and_then_cases, Consumed, Local, local_line, local_lines, local_section, local_sections, used_lines, local-then}
+use Rattle.reader.proofs.Forms.{count_writes}
+use Rattle.reader.proofs.Locals.{and_then_cases, local_line, local_lines, local_section, local_sections, used_lines, local-then}
 use Rattle.reader.proofs.Sizes.{Sane, sane_count, sane_line, sane_sections, text_of}
-use Rattle.reader.proofs.Texts.{and_then_ok, line_ok, Adding, flows_add, lanes_add, section-writes, from, param_writes, sections_write, text_reads, text_writes, no_text, one_sheet}
+use Rattle.reader.proofs.Texts.{line_ok, Adding, flows_add, lanes_add, section-writes, param_writes, sections_write, text_reads, text_writes, no_text, one_sheet}
 
 -- a reader that fails at once has read no line
 at_once : {A : Type 0} (r : Result (Read A) SheetFault) (k : ℕ) → Sane r (k + 1) → (f : SheetFault) → r ≡ Err f → k ≤ f.line → (bytes : List ℕ) → first_lines (f.line - k) bytes ≡ []

@@ -1,15 +1,15 @@
 -- Each form of a line is read from just what is written of it.
-use Rattle.std.proofs.Common.{◌≡◌, ℕ, zero, suc, ◌+◌, ◌-◌, ◌*◌, ◌^◌, ◌<◌, ◌≤◌, Bool, true, false, cond, not, ◌&&◌, eqb, ltb, leb, ◌⊎◌, List, [], ◌∷◌, ◌++◌, length, get_or, take, drop, Some, None, Ok, Err, decimal, Option, Result, sym, refl, ap, ◌∙◌, subst, inl, inr, ⊎_elim, add-one, arith}
+use Rattle.std.proofs.Common.{◌≡◌, ℕ, zero, suc, ◌+◌, ◌^◌, ◌<◌, ◌≤◌, Bool, true, false, cond, ◌&&◌, eqb, ltb, leb, List, [], ◌∷◌, ◌++◌, length, take, drop, Some, None, Ok, Err, decimal, Option, Result, sym, refl, ap, ◌∙◌, ⊎_elim, add-one, arith}
 use Rattle.std.proofs.ByRecursion.{All-append}
 use Rattle.std.proofs.lemmas.List.{take_at, drop_at, drop-drop, length-append}
-use Rattle.std.proofs.lemmas.Bool.{and_parts, and_from, cond-true, cond-false, leb-true, le-leb, lt-ltb, ltb-true, eq-eqb, ne_eqb, eqb-true, eqb-false, cases_Bool}
+use Rattle.std.proofs.lemmas.Bool.{and_parts, and_from, cond-true, cond-false, leb-true, le-leb, lt-ltb, ltb-true, eq-eqb, ne_eqb, eqb-true, cases_Bool}
 use Rattle.std.proofs.lemmas.Fmt.{digits_decimal}
 use Rattle.std.specs.Option.{option_map, option_zip}
 use Rattle.std.specs.List.{AllByRecursion as All}
-use Rattle.reader.specs.declared.fault.Refusal.TheVariants.{Form, Range, Order}
+use Rattle.reader.specs.declared.fault.Refusal.TheVariants.{Range}
 use Rattle.sheet.specs.declared.flow.Flow.{Flow}
 use Rattle.reader.specs.declared.draft.Section.{Section}
-use Rattle.reader.specs.declared.draft.Section.TheVariants.{Flows, Lanes, Params}
+use Rattle.reader.specs.declared.draft.Section.TheVariants.{Flows, Lanes}
 use Rattle.sheet.specs.Sheets.{Content, with_flow, with_lane}
 use Rattle.reader.specs.declared.draft.Parameter.{Parameter}
 use Rattle.reader.specs.Grammar.{head_line, flow_line}

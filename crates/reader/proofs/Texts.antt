@@ -1,11 +1,11 @@
 -- The texts of a sheet are what is read as that sheet.
-use Rattle.std.proofs.Common.{◌≡◌, ℕ, zero, suc, ◌+◌, ◌-◌, ◌^◌, ◌<◌, ◌≤◌, Bool, true, false, cond, ◌&&◌, eqb, ltb, leb, ◌⊎◌, List, [], ◌∷◌, ◌++◌, length, Some, None, Ok, Err, decimal, Option, Result, sym, refl, ap, ◌∙◌, subst, inl, inr, ⊎_elim, append_assoc, append-nil, arith}
+use Rattle.std.proofs.Common.{◌≡◌, ℕ, zero, suc, ◌+◌, ◌^◌, ◌<◌, ◌≤◌, Bool, true, false, cond, eqb, ltb, leb, ◌⊎◌, List, [], ◌∷◌, ◌++◌, length, Some, None, Ok, Err, decimal, Option, Result, sym, refl, ap, ◌∙◌, subst, inl, inr, ⊎_elim, append_assoc, append-nil, arith}
 use Rattle.std.proofs.lemmas.List.{length_push}
 use Rattle.std.proofs.lemmas.Bool.{and_parts, and_from, cond-true, cond-false, leb-true, le-leb, ltb-false, le-ltb, eqb-true, cases_Bool, false≢true}
 use Rattle.charge.specs.Charge.{within}
 use Rattle.sheet.specs.declared.flow.Flow.{Flow}
 use Rattle.sheet.specs.Ranges.{flow_fits, lane_fits, all_of}
-use Rattle.sheet.specs.Sheets.{Content, Fits, blank, with_slots, with_threshold}
+use Rattle.sheet.specs.Sheets.{Content, Fits, with_slots, with_threshold}
 use Rattle.reader.specs.declared.draft.Parameter.{Parameter}
 use Rattle.reader.specs.declared.draft.Parameter.TheVariants.{Slots, Threshold}
 use Rattle.reader.specs.declared.draft.Section.{Section}
@@ -15,7 +15,7 @@ use Rattle.reader.specs.declared.fault.Refusal.TheVariants.{Form, Order}
 use Rattle.reader.specs.declared.fault.SheetFault.{SheetFault}
 use Rattle.reader.specs.Format.{Read, and_then, line_ends, line_as, lines_into, section, start, sections, ended, sheet_from, read_sheet}
 use Rattle.reader.specs.Grammar.{head_line, flow_line, param_line, lines_of, section_of, sheet_text, Stands, neither, just_d, just_t, both, Text}
-use Rattle.reader.specs.Lines.{Progress, cut_at, letter_of, most_of, lettered_of, count_of, ranged, parameter_of, earlier, with_param, line_into}
+use Rattle.reader.specs.Lines.{Progress, cut_at, letter_of, most_of, lettered_of, count_of, ranged, earlier, with_param, line_into}
 use Rattle.reader.proofs.Forms.{Lacks, cut_writes, cut_reads, lacks_decimal, some_ok, some_goes, cond_ok, lettered_writes, lettered_reads, ranged_ok, add_flows, add_lanes, flow_writes, flow_reads, lane_writes, lane_reads, count_writes, count_reads}
 use Rattle.reader.proofs.Numbers.{cond_some}
 use Rattle.reader.proofs.Turns.{whole}

@@ -1,5 +1,5 @@
 -- The texts of a sheet.
-use Rattle.std.specs.Prelude.{◌≡◌, ℕ, ◌≤◌, true, List, [], ◌∷◌, ◌++◌, length, decimal}
+use Rattle.std.specs.Prelude.{◌≡◌, ℕ, ◌≤◌, List, [], ◌∷◌, ◌++◌, length, decimal}
 use Rattle.sheet.specs.declared.flow.Flow.{Flow}
 use Rattle.sheet.specs.Sheets.{Content, Fits}
 

@@ -1,4 +1,6 @@
 // The reader of share sheets.
+#![tactic(auto)]
+
 ghost use Rattle.std.specs.Prelude.{◌≡◌, ◌≤◌, IfErr, MatchResult};
 ghost use Rattle.sheet.specs.Sheets.{content_of};
 ghost use Rattle.reader.specs.Account.{Account};

@@ -1,4 +1,4 @@
-use Rattle.std.proofs.Common.{length, ap, ◌∙◌, arith}
+use Rattle.std.proofs.Common.{length, ap, arith}
 use Rattle.reader.proofs.Sizes.{text_of, text_size}
 use Rattle.reader.proofs.Texts.{one_sheet}
 use Rattle.reader.proofs.grammar_laws.Goals as goal

@@ -1,4 +1,4 @@
-use Rattle.std.proofs.Common.{◌≡◌, ◌+◌, ◌-◌, ◌*◌, ◌≤◌, ◌⊎◌, length, get_or, drop, sym, ap, ◌∙◌, inl, inr, arith, false-eqb}
+use Rattle.std.proofs.Common.{◌≡◌, ◌+◌, ◌*◌, ◌≤◌, ◌⊎◌, length, get_or, drop, sym, ap, ◌∙◌, inl, inr, arith, false-eqb}
 use Rattle.reader.specs.Lines.{digits_from}
 use Rattle.reader.proofs.Steps.{digits_on, digits_off, digits_end, number_none, number_is, digit_fits}
 use Rattle.reader.proofs.line.number.Goals as goal
@@ -20,7 +20,7 @@ loop-b-preserved c = (
 
 pub returns : goal.returns
 returns c =
-    let some : 1 ≤ length c.args.s.now = omega (arith, false-eqb _ _ c.if-is-empty.ensures) in
+    let some : 1 ≤ length c.args.s.now = omega (arith, false-eqb _ _ c.if-is_empty.ensures) in
     let bare : (length c.args.s.now ≤ 1) ⊎ (get_or c.args.s.now 0 0 ≡ 48 → ⊥) =
     elim c.else-s-gt1.branch [ else-s-gt1-via-then-s-gt1+else-s-eq48 w ↦ inr w.if-s-eq48.false | else-s-gt1-via-else-s-gt1 w ↦ inl w.if-s-gt1.false ]
     in

@@ -6,13 +6,13 @@ use Rattle.reader.proofs.Turns.{lines_more, lines-fault, counted}
 use Rattle.reader.proofs.cursor.Cursor.section.Goals as goal
 
 pub loop-i-preserved : goal.loop-i-preserved
-loop-i-preserved c = sym (lines_more (line_into c.args.due) _ _ _ _ _ c.loop-i-test.true _ c.in-ok-entry.ensures) ∙ c.loop-i.invariant
+loop-i-preserved c = sym (lines_more (line_into c.args.due) _ _ _ _ _ c.loop-i-test.true _ c.in_ok-entry.ensures) ∙ c.loop-i.invariant
 
-pub returns-in-err-entry : goal.returns-in-err-entry
-returns-in-err-entry c =
-    let p = err_from_is_err_and c.from-residual-in-err-entry.result c.from-residual-in-err-entry.ensures.1 in
+pub returns-in_err-entry : goal.returns-in_err-entry
+returns-in_err-entry c =
+    let p = err_from_is_err_and c.from_residual-in_err-entry.result c.from_residual-in_err-entry.ensures.1 in
     rw (p.1, p.2) (
-    counted c.args.due (draft_of c.args.draft.now) (rest_of c.args.self.now) c.args.self.now.line _ c.in-ok-n.ensures.value
+    counted c.args.due (draft_of c.args.draft.now) (rest_of c.args.self.now) c.args.self.now.line _ c.in_ok-n.ensures.value
     ∙ sym c.loop-i.invariant
-    ∙ lines-fault (line_into c.args.due) _ _ _ _ _ c.loop-i-test.true _ c.in-err-entry.ensures
+    ∙ lines-fault (line_into c.args.due) _ _ _ _ _ c.loop-i-test.true _ c.in_err-entry.ensures
     )

@@ -6,5 +6,5 @@ use Rattle.reader.proofs.cursor.Cursor.section.Given as goal
 
 abbrev pub invariant-loop-i : goal.invariant-loop-i
 invariant-loop-i l =
-    lines_into (line_into l.due) (draft_of l.draft) (l.n - l.-i) (rest_of l.self) l.self.line
+    lines_into (line_into l.due) (draft_of l.draft) (l.n - l._i) (rest_of l.self) l.self.line
     ≡ lines_into (line_into l.due) (draft_of l.initial.draft) l.n (rest_of l.initial.self) l.initial.self.line

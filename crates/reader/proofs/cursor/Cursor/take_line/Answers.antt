@@ -6,5 +6,5 @@ use Rattle.reader.proofs.cursor.Cursor.take_line.Goals as goal
 pub returns : goal.returns
 returns c = (line_taken _ _ _ _ c.in-Some.ensures, refl)
 
-pub returns-in-default : goal.returns-in-default
-returns-in-default c = (sym (rw take_rest at c.in-default.ensures), refl)
+pub returns-in_default : goal.returns-in_default
+returns-in_default c = (sym (rw take_rest at c.in_default.ensures), refl)

@@ -27,8 +27,8 @@ impl<C: Card> Board<C> {
     }
 
     pub fn load(&mut self, sheet: Sheet) -> Result<(), Refusal>
-        ensures rule { Meets result (state_of self.new.books) (load_rule depth (held self.old.card) (state_of self.old.books) (content_of sheet)) }
-        ensures numbered { outcome_of loading_of result ≡ outcome_of loading_of (load_rule depth (held self.old.card) (state_of self.old.books) (content_of sheet)).0 }
+        ensures rule { Meets result (state_of self.new.books) (load_rule C.depth (C.held self.old.card) (state_of self.old.books) (content_of sheet)) }
+        ensures numbered { outcome_of loading_of result ≡ outcome_of loading_of (load_rule C.depth (C.held self.old.card) (state_of self.old.books) (content_of sheet)).0 }
         ensures card { self.new.card ≡ self.old.card }
     {
         if self.books.waits() || self.books.in_card() > 0 || self.card.count() > 0 {
@@ -57,7 +57,7 @@ impl<C: Card> Board<C> {
     }
 
     pub fn reap(&mut self) -> Result<Reaping, Refusal>
-        ensures rule { Reaps held finishes self.old.card self.new.card result (state_of self.old.books) (state_of self.new.books) }
+        ensures rule { Reaps C.held C.finishes self.old.card self.new.card result (state_of self.old.books) (state_of self.new.books) }
     {
         let Some((ticket, status)) = self.card.finish() else {
             if self.books.in_card() == 0 {

@@ -1,5 +1,5 @@
 -- What the rule of an arrival gives, and that it keeps the books sound. Assumes nothing.
-use Rattle.std.proofs.Common.{◌≡◌, ℕ, ◌+◌, ◌-◌, ◌*◌, ◌<◌, ◌≤◌, Bool, true, false, cond, ◌||◌, eqb, ltb, leb, List, [], ◌∷◌, length, get_or, set, Ok, Err, sum_by, Result, sym, refl, ap, ◌∙◌, subst, ⊎_elim, arith}
+use Rattle.std.proofs.Common.{◌≡◌, ℕ, ◌+◌, ◌-◌, ◌<◌, ◌≤◌, cond, ◌||◌, eqb, ltb, leb, List, [], length, get_or, set, Ok, Err, Result, sym, ap, ◌∙◌, subst, ⊎_elim, arith}
 use Rattle.std.proofs.lemmas.List.{length-set, get_or-set_same, get_or-set_other}
 use Rattle.std.proofs.lemmas.Bool.{cond-true, cond-false, lt-leb, le-leb, ne_eqb, eq-eqb, le-ltb, or_from, cases_eq}
 use Rattle.heap.specs.Sorting.{insert}
@@ -8,9 +8,9 @@ use Rattle.lanes.specs.Lanes.{starts}
 use Rattle.books.specs.Model.{State, Arrival, Meets, most, flow_at, lane_at, time_of, tagged, entered, arrive_rule}
 use Rattle.lanes.specs.Records.{by_start, ticket_is}
 use Rattle.books.specs.Model.{waiting}
-use Rattle.books.specs.Sound.{standing, highest, Shaped, Few, Timed, Tagged, Started, Fresh, Once, Within, Deep, Sound}
+use Rattle.books.specs.Sound.{highest, Shaped, Started, Sound}
 use Rattle.books.specs.declared.refusal.Refusal.{Refusal}
-use Rattle.books.specs.declared.refusal.Refusal.TheVariants.{NoFlow, NoLane, BadLength, LaneFull, NoTicket}
+use Rattle.books.specs.declared.refusal.Refusal.TheVariants.{LaneFull, NoTicket}
 use Rattle.lanes.specs.declared.records.Request.{Request}
 use Rattle.books.proofs.Sums.{waiting_mono, waiting_more, least_high, least_again}
 

@@ -1,5 +1,5 @@
 -- What an arrival, a send and a finish make of the books' fields. Assumes nothing.
-use Rattle.std.proofs.Common.{◌≡◌, ℕ, suc, ◌+◌, ◌-◌, ◌<◌, ◌≤◌, max, Bool, true, cond, ◌&&◌, ltb, List, [], ◌∷◌, map, length, get_or, set, Some, Ok, sum_by, Result, sym, refl, ap, ◌∙◌, subst, arith}
+use Rattle.std.proofs.Common.{◌≡◌, ℕ, ◌+◌, ◌-◌, ◌<◌, ◌≤◌, max, Bool, cond, ltb, List, ◌∷◌, length, get_or, set, Some, Ok, sum_by, Result, sym, refl, ap, ◌∙◌, subst, arith}
 use Rattle.std.proofs.lemmas.List.{get_or-map}
 use Rattle.std.proofs.lemmas.Bool.{cond-true, and_from, lt-ltb}
 use Rattle.heap.specs.Sorting.{insert}
@@ -9,12 +9,12 @@ use Rattle.charge.proofs.Charges.{laws}
 use Rattle.sheet.specs.Sheets.{FlowIn, LaneIn, flow_charge}
 use Rattle.sheet.specs.declared.flow.Flow.{Flow}
 use Rattle.lanes.specs.Lanes.{lanes_of, has_room}
-use Rattle.lanes.specs.Records.{by_start, by_ticket, ticket_is}
+use Rattle.lanes.specs.Records.{by_start, by_ticket}
 use Rattle.lanes.specs.Table.{in_card_of, Removes}
 use Rattle.lanes.specs.declared.lanes.Lanes.{Lanes}
 use Rattle.lanes.specs.declared.records.Request.{Request}
 use Rattle.lanes.specs.declared.table.InCard.{InCard}
-use Rattle.books.specs.Model.{State, Arrival as Ticket, Meets, most, waiting, flow_is, flow_at, lane_at, time_of, arrive_rule, move_rule, finished}
+use Rattle.books.specs.Model.{Arrival as Ticket, Meets, most, waiting, flow_is, flow_at, lane_at, time_of, arrive_rule, move_rule, finished}
 use Rattle.books.specs.Sound.{Sound}
 use Rattle.books.specs.States.{ends_of, state_from}
 use Rattle.books.specs.Views.{state_of}
@@ -24,7 +24,7 @@ use Rattle.books.specs.declared.refusal.Refusal.{Refusal}
 use Rattle.books.proofs.Arrivals.{Entry, enters, enters-sound}
 use Rattle.books.proofs.Counts.{own, flow_le, recorded, led_there, count_stays, count_up, count_down}
 use Rattle.books.proofs.Moves.{Move, moves, moves-sound}
-use Rattle.books.proofs.Opened.{Whole, sound, sixteen, end_at, ends_set, ends_stay, priced}
+use Rattle.books.proofs.Opened.{Whole, kept, sound, sixteen, end_at, ends_set, ends_stay, priced}
 use Rattle.books.proofs.Removes.{removed_sound, removed_without, with_in_card}
 use Rattle.books.proofs.Sums.{waiting_more, waiting_less}
 
@@ -57,13 +57,11 @@ module _ (b : Books) (t : ℕ) (r : Request) (c' : InCard) (out : Removes t (in_
     pub out-whole : Whole b.sheet b.time (set b.flows r.flow x) b.lanes c' b.arrivals
     out-whole =
         let one = out-counted.1 in
-        let in_card_lem = ap (λ (y : FlowRecord). y.in_card) is in (
-          count_stays (λ (y : FlowRecord). y.waiting) b.flows r.flow x no_record (λ j. waiting (flow_is j) (lanes_of b.lanes)) there (ap (λ (y : FlowRecord). y.waiting) is) b.counts_waiting,
-          (
-            count_down (λ (y : FlowRecord). y.in_card) b.flows x no_record (λ j. sum_by (flow_is j) (in_card_of b.in_card)) (λ j. sum_by (flow_is j) (in_card_of c')) r r.flow refl there (omega (arith, in_card_lem, one)) (λ j. less (flow_is j)) b.counts_in_card,
-            subst (λ es. Sound (record { sheet = (state_of b).sheet; time = b.time; ends = es; lanes = (state_of b).lanes; in_card = in_card_of c'; arrivals = b.arrivals })) (sym ends-are) (removed_sound (state_of b) t (in_card_of c') (Some r) out (sound b)),
-          ),
-        )
+        let in_card_lem = ap (λ (y : FlowRecord). y.in_card) is in
+        kept (set b.flows r.flow x) (state_from b.sheet b.time (set b.flows r.flow x) b.lanes c' b.arrivals)
+        (count_stays (λ (y : FlowRecord). y.waiting) b.flows r.flow x no_record (λ j. waiting (flow_is j) (lanes_of b.lanes)) there (ap (λ (y : FlowRecord). y.waiting) is) b.counts_waiting)
+        (count_down (λ (y : FlowRecord). y.in_card) b.flows x no_record (λ j. sum_by (flow_is j) (in_card_of b.in_card)) (λ j. sum_by (flow_is j) (in_card_of c')) r r.flow refl there (omega (arith, in_card_lem, one)) (λ j. less (flow_is j)) b.counts_in_card)
+        (subst (λ es. Sound (record { sheet = (state_of b).sheet; time = b.time; ends = es; lanes = (state_of b).lanes; in_card = in_card_of c'; arrivals = b.arrivals })) (sym ends-are) (removed_sound (state_of b) t (in_card_of c') (Some r) out (sound b)))
 
     pub out-state : state_from b.sheet b.time (set b.flows r.flow x) b.lanes c' b.arrivals ≡ finished (state_of b) t
     out-state =
@@ -111,15 +109,13 @@ module _ (b : Books) (l : ℕ) (r : Request) (rest : List Request) (lane : lane_
     moved-whole =
         let waits = ap (λ (y : FlowRecord). y.waiting) is in
         let sits = ap (λ (y : FlowRecord). y.in_card) is in
-        let some = lead-counted.1 in (
-          count_down (λ (y : FlowRecord). y.waiting) b.flows x no_record (λ j. waiting (flow_is j) (state_of b).lanes) (λ j. waiting (flow_is j) (lanes_of lanes')) r r.flow refl flow-there (omega (arith, waits, some))
-              (λ j. omega (arith, gone (flow_is j), ap (waiting (flow_is j)) left)) b.counts_waiting,
-          (
-            count_up (λ (y : FlowRecord). y.in_card) b.flows x no_record (λ j. sum_by (flow_is j) (state_of b).in_card) (λ j. sum_by (flow_is j) (in_card_of c')) r r.flow refl flow-there sits
-                (λ j. ap (sum_by (flow_is j)) entered-card ∙ sum_by-insert by_ticket (flow_is j) r (state_of b).in_card) b.counts_in_card,
-            moves-sound move (sound b) lane-there room,
-          ),
-        )
+        let some = lead-counted.1 in
+        kept (set b.flows r.flow x) (state_from b.sheet time' (set b.flows r.flow x) lanes' c' b.arrivals)
+        (count_down (λ (y : FlowRecord). y.waiting) b.flows x no_record (λ j. waiting (flow_is j) (state_of b).lanes) (λ j. waiting (flow_is j) (lanes_of lanes')) r r.flow refl flow-there (omega (arith, waits, some))
+        (λ j. omega (arith, gone (flow_is j), ap (waiting (flow_is j)) left)) b.counts_waiting)
+        (count_up (λ (y : FlowRecord). y.in_card) b.flows x no_record (λ j. sum_by (flow_is j) (state_of b).in_card) (λ j. sum_by (flow_is j) (in_card_of c')) r r.flow refl flow-there sits
+        (λ j. ap (sum_by (flow_is j)) entered-card ∙ sum_by-insert by_ticket (flow_is j) r (state_of b).in_card) b.counts_in_card)
+        (moves-sound move (sound b) lane-there room)
 
     pub moved-state : state_from b.sheet time' (set b.flows r.flow x) lanes' c' b.arrivals ≡ move_rule (state_of b) l
     moved-state = moves move ∙ sym (cond-true (ltb (length (state_of b).in_card) (state_of b).sheet.slots) _ _ (lt-ltb _ _ room))
@@ -166,11 +162,9 @@ module _ {b : Books} {f l n : ℕ} {share : Flow} {k charge start e time' : ℕ}
   entered-whole =
       let s = state_of b in
       let share-is = a.flow.is in
-      let small : charge_of n (flow_at s f).weight ≤ 1720320 = laws.largest n (flow_at s f).weight (omega (arith, entry.right.most, ap (λ (y : Flow). y.longest) share-is, a.flow.most)) (omega (arith, a.flow.some, ap (λ (y : Flow). y.weight) share-is)) in (
-        count_up (λ (y : FlowRecord). y.waiting) b.flows x no_record (λ j. waiting (flow_is j) s.lanes) (λ j. waiting (flow_is j) (lanes_of lanes')) (record { start = start; ticket = b.arrivals; flow = f; sectors = n; charge = charge }) f refl flow-in (ap (λ (y : FlowRecord). y.waiting) a.tagged)
-            (λ j. ap (waiting (flow_is j)) entry.lanes ∙ waiting_more (flow_is j) s.lanes l _ (omega (arith, a.lane.few, b.shaped.0))) b.counts_waiting,
-        (
-          count_stays (λ (y : FlowRecord). y.in_card) b.flows f x no_record (λ j. sum_by (flow_is j) s.in_card) flow-in (ap (λ (y : FlowRecord). y.in_card) a.tagged) b.counts_in_card,
-          enters-sound entry (sound b) a.flow.few a.lane.few small,
-        ),
-      )
+      let small : charge_of n (flow_at s f).weight ≤ 1720320 = laws.largest n (flow_at s f).weight (omega (arith, entry.right.most, ap (λ (y : Flow). y.longest) share-is, a.flow.most)) (omega (arith, a.flow.some, ap (λ (y : Flow). y.weight) share-is)) in
+      kept (set b.flows f x) (state_from b.sheet time' (set b.flows f x) lanes' b.in_card (b.arrivals + 1))
+      (count_up (λ (y : FlowRecord). y.waiting) b.flows x no_record (λ j. waiting (flow_is j) s.lanes) (λ j. waiting (flow_is j) (lanes_of lanes')) (record { start = start; ticket = b.arrivals; flow = f; sectors = n; charge = charge }) f refl flow-in (ap (λ (y : FlowRecord). y.waiting) a.tagged)
+      (λ j. ap (waiting (flow_is j)) entry.lanes ∙ waiting_more (flow_is j) s.lanes l _ (omega (arith, a.lane.few, b.shaped.0))) b.counts_waiting)
+      (count_stays (λ (y : FlowRecord). y.in_card) b.flows f x no_record (λ j. sum_by (flow_is j) s.in_card) flow-in (ap (λ (y : FlowRecord). y.in_card) a.tagged) b.counts_in_card)
+      (enters-sound entry (sound b) a.flow.few a.lane.few small)

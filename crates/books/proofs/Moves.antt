@@ -1,23 +1,21 @@
 -- What a request that goes into the card leaves. Assumes nothing.
-use Rattle.std.proofs.Common.{◌≡◌, ℕ, ◌+◌, ◌-◌, ◌<◌, ◌≤◌, cond, List, [], ◌∷◌, ◌++◌, length, get_or, take, set, sum_by, sym, refl, ap, ◌∙◌, subst, ⊎_elim, arith}
-use Rattle.std.proofs.lemmas.List.{length-set, get_or-set_same, get_or-set_other, take_more_set}
-use Rattle.std.proofs.lemmas.List.Sorted.{IsPermutation-to_front}
+use Rattle.std.proofs.Common.{◌≡◌, ℕ, ◌+◌, ◌-◌, ◌<◌, List, [], ◌∷◌, length, get_or, set, sym, ap, ◌∙◌, subst, ⊎_elim, arith}
+use Rattle.std.proofs.lemmas.List.{length-set, get_or-set_same, get_or-set_other}
 use Rattle.std.proofs.lemmas.Bool.{cases_eq}
-use Rattle.heap.specs.Sorting.{insert, sorted}
-use Rattle.heap.proofs.Sorting.{length-insert, sum_by-insert, sorted-shuffled}
+use Rattle.heap.specs.Sorting.{insert}
+use Rattle.heap.proofs.Sorting.{length-insert, sum_by-insert}
 use Rattle.lanes.specs.Lanes.{starts}
 use Rattle.books.specs.Model.{State, lane_at, time_of, moved_from, moved}
 use Rattle.lanes.specs.Records.{by_ticket, ticket_is}
 use Rattle.books.specs.Model.{waiting}
-use Rattle.books.specs.Sound.{standing, highest, Shaped, Started, Sound}
+use Rattle.books.specs.Sound.{standing, highest, Started, Sound}
 use Rattle.lanes.specs.declared.records.Request.{Request}
 use Rattle.lanes.specs.Lanes.{lanes_of}
 use Rattle.lanes.specs.declared.lanes.Lanes.{Lanes}
-use Rattle.books.specs.Sound.{CountsWaiting, CountsInCard}
 use Rattle.books.specs.States.{ends_of}
 use Rattle.books.specs.Views.{state_of}
 use Rattle.books.specs.declared.books.Books.{Books}
-use Rattle.books.proofs.Opened.{Whole, whole}
+use Rattle.books.proofs.Opened.{Kept, Whole, whole}
 use Rattle.books.proofs.Sums.{waiting_less, least_high, least_again}
 
 -- the first of lane l goes into the card
@@ -85,4 +83,4 @@ module _ {s : State} {l : ℕ} {r : Request} {rest : List Request} {time' : ℕ}
 pub stays_whole : (b : Books) (lanes' : Lanes) → lanes_of lanes' ≡ lanes_of b.lanes → Whole b.sheet b.time b.flows lanes' b.in_card b.arrivals
 stays_whole b lanes' e =
     let S : List (List Request) → State = λ ls. record { sheet = (state_of b).sheet; time = b.time; ends = ends_of b.flows; lanes = ls; in_card = (state_of b).in_card; arrivals = b.arrivals } in
-    subst (λ ls. CountsWaiting b.flows (S ls) × (CountsInCard b.flows (S ls) × Sound (S ls))) (sym e) (whole b)
+    subst (λ ls. Kept b.flows (S ls)) (sym e) (whole b)

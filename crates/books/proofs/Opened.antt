@@ -1,5 +1,5 @@
 -- The books by their fields. Assumes nothing.
-use Rattle.std.proofs.Common.{◌≡◌, ℕ, ◌<◌, ◌≤◌, true, cond, ◌||◌, eqb, ltb, leb, List, [], ◌∷◌, map, length, get_or, take, set, Some, None, Option, sym, refl, ap, ◌∙◌, subst, ⊎_elim, arith}
+use Rattle.std.proofs.Common.{◌≡◌, ℕ, ◌<◌, ◌≤◌, true, ◌||◌, eqb, ltb, leb, List, length, get_or, take, set, Some, None, Option, sym, ap, ◌∙◌, ⊎_elim, arith}
 use Rattle.std.proofs.lemmas.List.{get_or-map, get_or_past, length-map, map-set, set-get_or}
 use Rattle.std.proofs.lemmas.Bool.{cases_Bool, cases_eq, cases_lt, cond-true, cond-false, or_left, or_right, and_from, and_parts, eq-eqb, lt-ltb, le-leb, leb-true}
 use Rattle.charge.specs.Charge.{charge_of, within}
@@ -11,7 +11,7 @@ use Rattle.books.specs.Model.{State, waiting, flow_is, flow_at, lane_at}
 use Rattle.lanes.specs.declared.lanes.Lanes.{Lanes}
 use Rattle.lanes.specs.declared.table.InCard.{InCard}
 use Rattle.sheet.specs.declared.shape.Sheet.{Sheet}
-use Rattle.books.specs.Sound.{Sound, CountsWaiting, CountsInCard}
+use Rattle.books.specs.Sound.{Sound, CountsInCard, CountsWaiting, Shaped, Few, Timed, Tagged, Started, Fresh, Once, Within, Deep, Timely}
 use Rattle.books.specs.States.{ends_of, state_from}
 use Rattle.books.specs.Views.{state_of}
 use Rattle.books.specs.declared.books.Books.{Books}
@@ -22,13 +22,33 @@ use Rattle.books.proofs.Counts.{few_wait}
 pub sound : (b : Books) → Sound (state_of b)
 sound b = (b.shaped, (b.few, (b.timed, (b.tagged, (b.started, (b.fresh, (b.once, (b.within, (b.deep, (b.timely, tt))))))))))
 
+-- what the ghost fields say of the flows' records and what the books mean, by their names
+abbrev pub Kept : List FlowRecord → State → Type 0
+Kept flows s =
+    record { counts_waiting : CountsWaiting flows s; counts_in_card : CountsInCard flows s; shaped : Shaped s; few : Few s; timed : Timed s; tagged : Tagged s; started : Started s; fresh : Fresh s; once : Once s; within : Within s; deep : Deep s; timely : Timely s }
+
+pub kept : (flows : List FlowRecord) (s : State) → CountsWaiting flows s → CountsInCard flows s → Sound s → Kept flows s
+kept flows s w c k = record {
+  counts_waiting = w;
+  counts_in_card = c;
+  shaped = k.0;
+  few = k.1.0;
+  timed = k.1.1.0;
+  tagged = k.1.1.1.0;
+  started = k.1.1.1.1.0;
+  fresh = k.1.1.1.1.1.0;
+  once = k.1.1.1.1.1.1.0;
+  within = k.1.1.1.1.1.1.1.0;
+  deep = k.1.1.1.1.1.1.1.1.0;
+  timely = k.1.1.1.1.1.1.1.1.1.0;
+}
+
 -- what the ghost fields say of these fields together
 abbrev pub Whole : Sheet → ℕ → List FlowRecord → Lanes → InCard → ℕ → Type 0
-Whole sheet time flows lanes in_card arrivals =
-    CountsWaiting flows (state_from sheet time flows lanes in_card arrivals) × (CountsInCard flows (state_from sheet time flows lanes in_card arrivals) × Sound (state_from sheet time flows lanes in_card arrivals))
+Whole sheet time flows lanes in_card arrivals = Kept flows (state_from sheet time flows lanes in_card arrivals)
 
 pub whole : (b : Books) → Whole b.sheet b.time b.flows b.lanes b.in_card b.arrivals
-whole b = (b.counts_waiting, (b.counts_in_card, sound b))
+whole b = kept b.flows (state_of b) b.counts_waiting b.counts_in_card (sound b)
 
 pub sixteen : (b : Books) → length b.flows ≡ 16
 sixteen b = sym (length-map b.flows (λ (x : FlowRecord). x.end)) ∙ b.shaped.1

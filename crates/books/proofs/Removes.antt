@@ -1,7 +1,7 @@
 -- What a request that leaves the card leaves. Assumes nothing.
-use Rattle.std.proofs.Common.{◌≡◌, ℕ, suc, ◌+◌, ◌<◌, ◌≤◌, cond, eqb, List, [], ◌∷◌, length, get_or, set, Some, None, sum_by, Option, sym, refl, ap, ◌∙◌, subst, ⊎_elim, arith, MatchOption}
+use Rattle.std.proofs.Common.{◌≡◌, ℕ, suc, ◌≤◌, eqb, List, [], ◌∷◌, length, Some, None, sum_by, Option, sym, refl, ap, ◌∙◌, subst, arith, MatchOption}
 use Rattle.std.proofs.lemmas.List.Sums.{sum_by-cons}
-use Rattle.std.proofs.lemmas.Bool.{cond-true, cond-false, cond_both, eq-eqb, ne_eqb, cases_eq}
+use Rattle.std.proofs.lemmas.Bool.{cond-true, cond-false, cond_both, eq-eqb, ne_eqb}
 use Rattle.heap.specs.Sorting.{insert, upto}
 use Rattle.heap.proofs.Sorting.{length-insert, sum_by-insert}
 use Rattle.lanes.specs.Records.{by_ticket, ticket_is}
@@ -10,10 +10,10 @@ use Rattle.lanes.specs.declared.records.Request.{Request}
 use Rattle.books.specs.Model.{State, found, without}
 use Rattle.lanes.specs.Table.{in_card_of}
 use Rattle.lanes.specs.declared.table.InCard.{InCard}
-use Rattle.books.specs.Sound.{Sound, CountsWaiting, CountsInCard}
+use Rattle.books.specs.Sound.{Sound}
 use Rattle.books.specs.Views.{state_of}
 use Rattle.books.specs.declared.books.Books.{Books}
-use Rattle.books.proofs.Opened.{Whole, whole}
+use Rattle.books.proofs.Opened.{Kept, Whole, whole}
 
 apart : (t : ℕ) (y : Request) (ys : List Request) → sum_by (ticket_is t) (y ∷ ys) ≡ 0 → (y.ticket ≡ t → ⊥) × (sum_by (ticket_is t) ys ≡ 0)
 apart t y ys z = let c = sum_by-cons (ticket_is t) y ys in ((λ e. omega (arith, c, z, cond-true {A = ℕ} (eqb y.ticket t) 1 0 (eq-eqb y.ticket t e))), omega (arith, c, z))
@@ -88,4 +88,4 @@ removed_fewer s t ys (Some x) h = ap length h.1 ∙ length-insert by_ticket x ys
 
 -- where nothing left the card says what it said
 pub kept_whole : (b : Books) (t : ℕ) (c' : InCard) → Removes t (in_card_of b.in_card) None (in_card_of c') → Whole b.sheet b.time b.flows b.lanes c' b.arrivals
-kept_whole b t c' h = subst (λ c. CountsWaiting b.flows (with_in_card (state_of b) c) × (CountsInCard b.flows (with_in_card (state_of b) c) × Sound (with_in_card (state_of b) c))) (sym h.0) (whole b)
+kept_whole b t c' h = subst (λ c. Kept b.flows (with_in_card (state_of b) c)) (sym h.0) (whole b)

@@ -1,9 +1,8 @@
 -- What is true of every board's books.
-use Rattle.std.specs.Prelude.{◌≡◌, ℕ, ◌+◌, ◌-◌, ◌*◌, ◌≤◌, List, [], map, length, sum_by, slice_index}
+use Rattle.std.specs.Prelude.{◌≡◌, ℕ, ◌+◌, ◌-◌, ◌*◌, ◌≤◌, List, map, length, sum_by, slice_index}
 use Rattle.books.specs.Model.{State, waiting, flow_is, most, lane_at, time_of}
 use Rattle.books.specs.declared.flows.FlowRecord.{FlowRecord}
 use Rattle.lanes.specs.Records.{ticket_is}
-use Rattle.lanes.specs.declared.records.Request.{Request}
 
 -- how often a ticket stands in the books
 abbrev pub standing : State → ℕ → ℕ

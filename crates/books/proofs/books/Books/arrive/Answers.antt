@@ -1,12 +1,7 @@
 -- The refusals of a full lane and of no ticket put the flow's record back; the last way is `enters`.
-use Rattle.std.proofs.Common.{◌≡◌, ℕ, ◌+◌, ◌<◌, ◌≤◌, max, length, get_or, set, sym, refl, ap, ◌∙◌, subst, arith}
+use Rattle.std.proofs.Common.{◌≡◌, ℕ, ◌+◌, ◌<◌, max, length, set, sym, ap, ◌∙◌, subst, arith}
 use Rattle.std.proofs.lemmas.List.{get_or-map}
-use Rattle.std.proofs.lemmas.Bool.{cond-true, and_from, lt-ltb}
-use Rattle.charge.specs.Charge.{charge_of}
-use Rattle.sheet.specs.declared.flow.Flow.{Flow}
-use Rattle.lanes.specs.Lanes.{lanes_of}
-use Rattle.books.specs.Model.{lane_at, tagged}
-use Rattle.books.specs.States.{state_from, ends_of}
+use Rattle.books.specs.States.{state_from}
 use Rattle.books.specs.Views.{state_of}
 use Rattle.books.specs.declared.books.Books.{Books}
 use Rattle.books.specs.declared.flows.FlowRecord.{FlowRecord}
@@ -33,8 +28,8 @@ back_whole b f x e = subst (λ fs. Whole b.sheet b.time fs b.lanes b.in_card b.a
 back_state : (b : Books) (f : ℕ) (x : FlowRecord) → x ≡ record_at b f → state_from b.sheet b.time (set b.flows f x) b.lanes b.in_card b.arrivals ≡ state_of b
 back_state b f x e = ap (λ fs. state_from b.sheet b.time fs b.lanes b.in_card b.arrivals) (restored b.flows f x no_record e)
 
-pub invariant-of-self-then-waiting-capacity : goal.invariant-of-self-then-waiting-capacity
-invariant-of-self-then-waiting-capacity c = back_whole c.args.self.now c.args.flow _ (c.drop-guard.ensures ∙ c.tag-start.ensures.kept ∙ c.new-guard.ensures.holds.0)
+pub invariant_of-self-then-waiting-capacity : goal.invariant_of-self-then-waiting-capacity
+invariant_of-self-then-waiting-capacity c = back_whole c.args.self.now c.args.flow _ (c.drop-guard.ensures ∙ c.tag-start.ensures.kept ∙ c.new-guard.ensures.holds.0)
 
 pub returns-then-waiting-capacity : goal.returns-then-waiting-capacity
 returns-then-waiting-capacity c =
@@ -42,8 +37,8 @@ returns-then-waiting-capacity c =
     full (state_of b) _ c.args.flow c.args.lane c.args.length (priced (state_of b) c.args.flow c.args.lane c.args.length c.in-Some.share c.in-Some-lane.capacity c.in-Some-charge.charge c.in-Some.ensures c.in-Some-lane.ensures c.in-Some-charge.ensures.value).0 (omega (arith, c.if-waiting-capacity.true, c.len-waiting.ensures, c.in-Some-lane.ensures.is))
     (back_state b c.args.flow _ (c.drop-guard.ensures ∙ c.tag-start.ensures.kept ∙ c.new-guard.ensures.holds.0))
 
-pub invariant-of-self-then-self-ge-MOST : goal.invariant-of-self-then-self-ge-MOST
-invariant-of-self-then-self-ge-MOST c = back_whole c.args.self.now c.args.flow _ (c.drop-guard-then-self-ge-MOST.ensures ∙ c.tag-start.ensures.kept ∙ c.new-guard.ensures.holds.0)
+pub invariant_of-self-then-self-ge-MOST : goal.invariant_of-self-then-self-ge-MOST
+invariant_of-self-then-self-ge-MOST c = back_whole c.args.self.now c.args.flow _ (c.drop-guard-then-self-ge-MOST.ensures ∙ c.tag-start.ensures.kept ∙ c.new-guard.ensures.holds.0)
 
 pub returns-then-self-ge-MOST : goal.returns-then-self-ge-MOST
 returns-then-self-ge-MOST c =
@@ -51,8 +46,8 @@ returns-then-self-ge-MOST c =
     spent (state_of b) _ c.args.flow c.args.lane c.args.length (priced (state_of b) c.args.flow c.args.lane c.args.length c.in-Some.share c.in-Some-lane.capacity c.in-Some-charge.charge c.in-Some.ensures c.in-Some-lane.ensures c.in-Some-charge.ensures.value).0 (omega (arith, c.if-waiting-capacity.false, c.len-waiting.ensures, c.in-Some-lane.ensures.is)) (omega (arith, c.if-self-ge-MOST.true))
     (back_state b c.args.flow _ (c.drop-guard-then-self-ge-MOST.ensures ∙ c.tag-start.ensures.kept ∙ c.new-guard.ensures.holds.0))
 
-pub invariant-of-self-2 : goal.invariant-of-self-2
-invariant-of-self-2 c =
+pub invariant_of-self-2 : goal.invariant_of-self-2
+invariant_of-self-2 c =
     entered-whole {b = c.args.self.now} {f = c.args.flow} {l = c.args.lane} {n = c.args.length} {lanes' = c.push.new.self} (record {
       flow = c.in-Some.ensures;
       lane = c.in-Some-lane.ensures;
@@ -64,7 +59,7 @@ invariant-of-self-2 c =
       few = omega (arith, c.if-self-ge-MOST.false);
       answer = c.push.ensures.answer;
       lanes = c.push.ensures.after;
-      time = c.least-start-self.ensures;
+      time = c.least_start-self.ensures;
     })
 
 pub returns : goal.returns
@@ -80,5 +75,5 @@ returns c =
       few = omega (arith, c.if-self-ge-MOST.false);
       answer = c.push.ensures.answer;
       lanes = c.push.ensures.after;
-      time = c.least-start-self.ensures;
+      time = c.least_start-self.ensures;
     })

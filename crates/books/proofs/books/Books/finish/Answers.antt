@@ -1,20 +1,17 @@
-use Rattle.std.proofs.Common.{◌≡◌, Some, None, sym, ap, ◌∙◌, subst, arith}
-use Rattle.lanes.specs.Table.{in_card_of}
-use Rattle.lanes.specs.declared.table.InCard.{InCard}
+use Rattle.std.proofs.Common.{Some, None, ap, arith}
 use Rattle.books.specs.Views.{state_of}
 use Rattle.books.proofs.Changes.{out-counted, out-whole, out-state}
-use Rattle.books.proofs.Opened.{whole}
 use Rattle.books.proofs.Removes.{kept_whole, removed_found, removed_without, removed_fewer, with_in_card}
 use Rattle.books.proofs.books.Books.finish.Goals as goal
 
-pub invariant-of-self : goal.invariant-of-self
-invariant-of-self c = kept_whole c.args.self.now c.args.ticket c.remove.new.self c.in-default.ensures
+pub invariant_of-self : goal.invariant_of-self
+invariant_of-self c = kept_whole c.args.self.now c.args.ticket c.remove.new.self c.in_default.ensures
 
-pub returns-in-default : goal.returns-in-default
-returns-in-default c =
+pub returns-in_default : goal.returns-in_default
+returns-in_default c =
     let b = c.args.self.now in
     let t = c.args.ticket in
-    let out = c.in-default.ensures in
+    let out = c.in_default.ensures in
     let same = ap (with_in_card (state_of b)) out.0 in
     record {
       answer = removed_found t (state_of b).in_card _ None (omega (arith, b.once t)) out;
@@ -25,11 +22,11 @@ returns-in-default c =
 pub bounds-self-request : goal.bounds-self-request
 bounds-self-request c = (out-counted c.args.self.now c.args.ticket c.in-Some.request c.remove.new.self c.in-Some.ensures).0
 
-pub finish-one-requires : goal.finish-one-requires
-finish-one-requires c = (out-counted c.args.self.now c.args.ticket c.in-Some.request c.remove.new.self c.in-Some.ensures).1
+pub finish_one-requires : goal.finish_one-requires
+finish_one-requires c = (out-counted c.args.self.now c.args.ticket c.in-Some.request c.remove.new.self c.in-Some.ensures).1
 
-pub invariant-of-self-2 : goal.invariant-of-self-2
-invariant-of-self-2 c = out-whole c.args.self.now c.args.ticket c.in-Some.request c.remove.new.self c.in-Some.ensures _ c.finish-one.ensures
+pub invariant_of-self-2 : goal.invariant_of-self-2
+invariant_of-self-2 c = out-whole c.args.self.now c.args.ticket c.in-Some.request c.remove.new.self c.in-Some.ensures _ c.finish_one.ensures
 
 pub returns : goal.returns
 returns c =
@@ -39,5 +36,5 @@ returns c =
     record {
       answer = removed_found t (state_of b).in_card _ (Some c.in-Some.request) (omega (arith, b.once t)) out;
       fewer = removed_fewer (state_of b) t _ (Some c.in-Some.request) out;
-      state = out-state b t c.in-Some.request c.remove.new.self out _ c.finish-one.ensures;
+      state = out-state b t c.in-Some.request c.remove.new.self out _ c.finish_one.ensures;
     }

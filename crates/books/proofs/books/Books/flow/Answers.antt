@@ -1,7 +1,6 @@
-use Rattle.std.proofs.Common.{◌≡◌, ◌<◌, leb, length, get_or, Ok, sym, ap, ◌∙◌, arith}
+use Rattle.std.proofs.Common.{◌<◌, leb, length, get_or, Ok, sym, ◌∙◌, arith}
 use Rattle.std.proofs.lemmas.List.{get_or-map}
 use Rattle.std.proofs.lemmas.Bool.{cond-false, lt-leb}
-use Rattle.sheet.specs.declared.flow.Flow.{Flow}
 use Rattle.books.specs.Views.{state_of}
 use Rattle.books.specs.declared.flows.FlowRecord.{FlowRecord}
 use Rattle.books.proofs.Opened.{sixteen}

@@ -29,8 +29,8 @@ among-append t (x ∷ xs) ys = ap (λ b. eqb x.ticket t || b) (among-append t xs
 
 -- a ticket that is in no bank is not among all
 among_nowhere : (t : ℕ) (banks : List (List Job)) → ((k : ℕ) → among t (commands_in (get_or banks k [])) ≡ false) → among t (commands_all banks) ≡ false
-among_nowhere t [] no-bank = refl
-among_nowhere t (jobs ∷ banks) no-bank = among-append t (commands_in jobs) (commands_all banks) ∙ or_false_both (among t (commands_in jobs)) (among t (commands_all banks)) (no-bank 0) (among_nowhere t banks (λ k. no-bank (suc k)))
+among_nowhere t [] no_bank = refl
+among_nowhere t (jobs ∷ banks) no_bank = among-append t (commands_in jobs) (commands_all banks) ∙ or_false_both (among t (commands_in jobs)) (among t (commands_all banks)) (no_bank 0) (among_nowhere t banks (λ k. no_bank (suc k)))
 
 or_false_end : (a b : Bool) → b ≡ false → (a || b) ≡ a
 or_false_end true b h = refl

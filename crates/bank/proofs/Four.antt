@@ -22,8 +22,8 @@ map_down f xs i d h =
     ap (λ ys. set ys i (f (get_or xs i d))) front ∙ set_at (take i xs) (get_or xs i d) (map f (drop (i + 1) xs)) (f (get_or xs i d)) i (length-take-le i xs (omega arith)) ∙ ap (λ ys. take i xs ++ map f ys) (sym (drop_more xs i d h))
 
 -- the element that f was not put to yet
-pub get_d_down : {X : Type 0} (f : X → X) (xs : List X) (i : ℕ) (d : X) → i < length xs → get_or (take (i + 1) xs ++ map f (drop (i + 1) xs)) i d ≡ get_or xs i d
-get_d_down f xs i d h =
+pub get_or_down : {X : Type 0} (f : X → X) (xs : List X) (i : ℕ) (d : X) → i < length xs → get_or (take (i + 1) xs ++ map f (drop (i + 1) xs)) i d ≡ get_or xs i d
+get_or_down f xs i d h =
     let front : take (i + 1) xs ++ map f (drop (i + 1) xs) ≡ take i xs ++ get_or xs i d ∷ map f (drop (i + 1) xs) = rw (take_more xs i d h) (append_assoc (take i xs) (get_or xs i d ∷ []) (map f (drop (i + 1) xs))) in
     ap (λ ys. get_or ys i d) front ∙ get_or_at (take i xs) (get_or xs i d) (map f (drop (i + 1) xs)) d i (length-take-le i xs (omega arith))
 
@@ -50,7 +50,7 @@ lowered_all banks₀ banks i first h l =
 
 lowered_more : (banks₀ banks : List (List Job)) (i : ℕ) (first : Option ℕ) (jobs : List Job) → i < length banks₀ → Lowered banks₀ banks (i + 1) first → jobs ≡ lowered (get_or banks i []) → Lowered banks₀ (set banks i jobs) i (cond (ready jobs) (Some i) first)
 lowered_more banks₀ banks i first jobs h l is =
-    let same : get_or banks i [] ≡ get_or banks₀ i [] = ap (λ bs. get_or bs i []) l.lowers ∙ get_d_down lowered banks₀ i [] h in
+    let same : get_or banks i [] ≡ get_or banks₀ i [] = ap (λ bs. get_or bs i []) l.lowers ∙ get_or_down lowered banks₀ i [] h in
     let long : length banks ≡ length banks₀ = ap length l.lowers ∙ simp (length-append, length-map, length-take, length-drop) (omega arith) in
     record {
       lowers = ap (λ bs. set bs i jobs) l.lowers ∙ ap (set (take (i + 1) banks₀ ++ map lowered (drop (i + 1) banks₀)) i) (is ∙ ap lowered same) ∙ map_down lowered banks₀ i [] h;

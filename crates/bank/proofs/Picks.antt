@@ -22,9 +22,9 @@ abbrev Seen : ℕ → List (List Job) → Option ℕ → Type 0
 Seen i banks None = (b : ℕ) → Waits (get_or banks b [])
 Seen i banks (Some f) = Found i banks f
 
-waits-next : (jobs : List Job) (banks : List (List Job)) (n : ℕ) → Waits jobs → ((k : ℕ) → k < n → Waits (get_or banks k [])) → (k : ℕ) → k < suc n → Waits (get_or (jobs ∷ banks) k [])
-waits-next jobs banks n w all zero h = w
-waits-next jobs banks n w all (suc k) h = all k (omega arith)
+waits_next : (jobs : List Job) (banks : List (List Job)) (n : ℕ) → Waits jobs → ((k : ℕ) → k < n → Waits (get_or banks k [])) → (k : ℕ) → k < suc n → Waits (get_or (jobs ∷ banks) k [])
+waits_next jobs banks n w all zero h = w
+waits_next jobs banks n w all (suc k) h = all k (omega arith)
 
 all_wait : (jobs : List Job) (banks : List (List Job)) → Waits jobs → ((b : ℕ) → Waits (get_or banks b [])) → (b : ℕ) → Waits (get_or (jobs ∷ banks) b [])
 all_wait jobs banks w all zero = w
@@ -38,7 +38,7 @@ seen_next i jobs banks (Some f) w s =
       from = omega (arith, s.from);
       below = omega (arith, s.below);
       is_ready = ap (λ n. ready (get_or (jobs ∷ banks) n [])) back ∙ s.is_ready;
-      waiting = λ k h. waits-next jobs banks (f - (i + 1)) w s.waiting k (omega arith);
+      waiting = λ k h. waits_next jobs banks (f - (i + 1)) w s.waiting k (omega arith);
     }
 
 seen_one : (i : ℕ) (jobs : List Job) (banks : List (List Job)) (v : Bool) → ready jobs ≡ v → Seen (i + 1) banks (first_ready (i + 1) banks) → Seen i (jobs ∷ banks) (cond v (Some i) (first_ready (i + 1) banks))

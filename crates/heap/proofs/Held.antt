@@ -45,8 +45,8 @@ module _ {X : Type 0} (upto : X → X → Bool) (total : (x y : X) → upto x y 
       }
 
   -- the first of a heap is the least
-  first-least : (xs : List X) (n at : ℕ) (x : X) → at ≡ 0 → ((d : X) → x ≡ get_or (take n xs) at d) → Heaped upto (take n xs) → Least upto x (take n xs)
-  first-least xs n at x z is o = steps.first-least upto total transitive (take n xs) x (subst (λ k. (d : X) → x ≡ get_or (take n xs) k d) z is) o
+  first_least : (xs : List X) (n at : ℕ) (x : X) → at ≡ 0 → ((d : X) → x ≡ get_or (take n xs) at d) → Heaped upto (take n xs) → Least upto x (take n xs)
+  first_least xs n at x z is o = steps.first_least upto total transitive (take n xs) x (subst (λ k. (d : X) → x ≡ get_or (take n xs) k d) z is) o
 
   -- the record in the place `at` goes, and the last comes into its place
   pub removes : (xs zs : List X) (n m k l at : ℕ) (x y : X) → m + 1 ≡ min n (length xs) → k ≡ m + 1 → l ≡ m → at < m → x ≡ get_or (take k xs) at x → y ≡ get_or (take k xs) m y → ((ws : List X) → IsPermutation ws (set (take l (take k xs)) at y) → IsPermutation ws zs) → (Free upto (set (take l (take k xs)) at y) at → Heaped upto zs) → Lost upto xs n at x ((zs ++ drop l (take k xs)) ++ drop k xs) m
@@ -68,13 +68,13 @@ module _ {X : Type 0} (upto : X → X → Bool) (total : (x y : X) → upto x y 
         long = simp (length-append, length-drop) (omega arith);
         len = top;
         held = rw (all, held) whole;
-        least = λ z. first-least xs n at x z (subst (λ v. (d : X) → x ≡ get_or v at d) (sym all) (get_or_read hs at x (omega arith) is));
+        least = λ z. first_least xs n at x z (subst (λ v. (d : X) → x ≡ get_or v at d) (sym all) (get_or_read hs at x (omega arith) is));
         ordered = λ o. subst (Heaped upto) (sym held) (h (steps.freed upto total transitive (take l hs) at y (steps.shortened upto total transitive hs l (subst (Heaped upto) all o))));
       }
 
   -- the last goes
-  pub removes-last : (xs : List X) (n m k at : ℕ) (x : X) → m + 1 ≡ min n (length xs) → k ≡ m + 1 → at < m + 1 → m ≤ at → x ≡ get_or (take k xs) at x → Lost upto xs n at x (take k xs ++ drop k xs) m
-  removes-last xs n m k at x top e b z is =
+  pub removes_last : (xs : List X) (n m k at : ℕ) (x : X) → m + 1 ≡ min n (length xs) → k ≡ m + 1 → at < m + 1 → m ≤ at → x ≡ get_or (take k xs) at x → Lost upto xs n at x (take k xs ++ drop k xs) m
+  removes_last xs n m k at x top e b z is =
       let hs = take k xs in
       let all : take n xs ≡ hs = take_min n xs ∙ ap (λ i. take i xs) (omega arith) in
       let part : length hs ≡ m + 1 = length-take-le k xs (omega arith) ∙ e in
@@ -88,7 +88,7 @@ module _ {X : Type 0} (upto : X → X → Bool) (total : (x y : X) → upto x y 
         long = ap length same;
         len = top;
         held = rw (all, held) (subst (λ v. IsPermutation v (x ∷ take m hs)) (sym ends) (IsPermutation-to_front (take m hs) x));
-        least = λ z. first-least xs n at x z (subst (λ v. (d : X) → x ≡ get_or v at d) (sym all) (get_or_read hs at x (omega arith) is));
+        least = λ z. first_least xs n at x z (subst (λ v. (d : X) → x ≡ get_or v at d) (sym all) (get_or_read hs at x (omega arith) is));
         ordered = λ o. subst (Heaped upto) (sym held) (steps.shortened upto total transitive hs m (subst (Heaped upto) all o));
       }
 
@@ -116,4 +116,4 @@ module _ {X : Type 0} (upto : X → X → Bool) (total : (x y : X) → upto x y 
   sees xs n x some read =
       let long : length (take n xs) ≡ min n (length xs) = length-take n xs in
       let is : (d : X) → x ≡ get_or (take n xs) 0 d = λ d. get_or_read xs 0 x (omega arith) read d ∙ sym (get_or-take n xs 0 d (omega arith)) in
-      record { some = some; first = is; least = steps.first-least upto total transitive (take n xs) x is }
+      record { some = some; first = is; least = steps.first_least upto total transitive (take n xs) x is }

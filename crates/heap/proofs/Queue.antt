@@ -13,10 +13,10 @@ module _ {X : Type 0} (by : X → List ℕ) (tell : (x y : X) → by x ≡ by y 
   abbrev order : X → X → Bool
   order x y = upto (by x) (by y)
 
-  all-least : (x : X) (ys : List X) → Least order x ys → AllByRecursion (First by x) ys
+  all_least : (x : X) (ys : List X) → Least order x ys → AllByRecursion (First by x) ys
   unfolding Least
-  all-least x [] h = tt
-  all-least x (y ∷ ys) h = (h 0 y (omega arith), all-least x ys (λ k d l. h (suc k) d (omega (arith, l))))
+  all_least x [] h = tt
+  all_least x (y ∷ ys) h = (h 0 y (omega arith), all_least x ys (λ k d l. h (suc k) d (omega (arith, l))))
 
   -- what is at or before all comes first
   first-sorted : (x : X) (ys : List X) → AllByRecursion (First by x) ys → sorted by (x ∷ ys) ≡ x ∷ sorted by ys
@@ -30,11 +30,11 @@ module _ {X : Type 0} (by : X → List ℕ) (tell : (x y : X) → by x ≡ by y 
   popped-sorted xs ys n m (Some x) h o =
       let rest = take m ys in
       sym (sorted-shuffled by tell (take n xs) (x ∷ rest) h.held)
-      ∙ first-sorted x rest (all_shuffled (First by x) (take n xs) (x ∷ rest) h.held (all-least x (take n xs) (h.least refl o))).1
+      ∙ first-sorted x rest (all_shuffled (First by x) (take n xs) (x ∷ rest) h.held (all_least x (take n xs) (h.least refl o))).1
 
   pub peeked-head : (xs : List X) (n : ℕ) (r : Option X) → Peeked order xs n r → Heaped order (take n xs) → r ≡ head_of (sorted by (take n xs))
   peeked-head xs n None h o = sym (ap (λ l. head_of (sorted by l)) (take_none n xs h))
-  peeked-head xs n (Some x) h o = go (take n xs) (omega (arith, h.some, length-take n xs)) h.first (all-least x (take n xs) (h.least o))
+  peeked-head xs n (Some x) h o = go (take n xs) (omega (arith, h.some, length-take n xs)) h.first (all_least x (take n xs) (h.least o))
     where
       go : (zs : List X) → 0 < length zs → ((d : X) → x ≡ get_or zs 0 d) → AllByRecursion (First by x) zs → Some x ≡ head_of (sorted by zs)
       go [] l f a = absurd (omega (arith, l))

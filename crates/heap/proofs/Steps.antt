@@ -15,16 +15,16 @@ Swapped {X} xs ys a b =
 
 -- The hole moves from h to c, whose record y moves into it: the list with x in the hole has the records at h and c exchanged.
 module _ {X : Type 0} (s : List X) (h c : ℕ) (x y : X) (in-h : h < length s) (in_c : c < length s) (apart : h ≡ c → ⊥) (read : y ≡ get_or s c y) where
-  pub hole-swaps : Swapped (set s h x) (set (set s h y) c x) h c
-  hole-swaps =
+  pub hole_swaps : Swapped (set s h x) (set (set s h y) c x) h c
+  hole_swaps =
       let wide = length-set s h y in (
         λ d. get_or-set_other (set s h y) c h x d (omega arith) ∙ get_or-set_same s h y d in-h ∙ get_or_read s c y in_c read d ∙ sym (get_or-set_other s h c x d (omega arith)),
         λ d. get_or-set_same (set s h y) c x d (omega arith) ∙ sym (get_or-set_same s h x d in-h),
         λ k d p q. get_or-set_other (set s h y) c k x d q ∙ get_or-set_other s h k y d p ∙ sym (get_or-set_other s h k x d p),
       )
 
-  pub hole-shuffles : IsPermutation (set s h x) (set (set s h y) c x)
-  hole-shuffles =
+  pub hole_shuffles : IsPermutation (set s h x) (set (set s h y) c x)
+  hole_shuffles =
       let v = set s h x in
       let wide = length-set s h x in
       let at_c : get_or v c x ≡ y = get_or-set_other s h c x x (omega arith) ∙ sym (get_or_read s c y in_c read x) in
@@ -57,12 +57,12 @@ module _ {X : Type 0} (upto : X → X → Bool) (total : (x y : X) → upto x y 
   -- ---- a record that rises from j to its parent p
 
   -- what the test of the parent p against x says of the list with x in the hole j
-  pub parent-read : (s : List X) (p j : ℕ) (x y : X) (b : Bool) → Child p j → j < length s → b ≡ upto (get_or s p y) x → (d : X) → upto (get_or (set s j x) p d) (get_or (set s j x) j d) ≡ b
-  parent-read s p j x y b o i t d = (λ k. upto ((get_or-set_other s j p x d (omega arith) ∙ get_or_default s p d y (omega arith)) k) (get_or-set_same s j x d i k)) ∙ sym t
+  pub parent_read : (s : List X) (p j : ℕ) (x y : X) (b : Bool) → Child p j → j < length s → b ≡ upto (get_or s p y) x → (d : X) → upto (get_or (set s j x) p d) (get_or (set s j x) j d) ≡ b
+  parent_read s p j x y b o i t d = (λ k. upto ((get_or-set_other s j p x d (omega arith) ∙ get_or_default s p d y (omega arith)) k) (get_or-set_same s j x d i k)) ∙ sym t
 
-  pub rise-ends : (xs : List X) (j : ℕ) → j ≤ 0 → Rising upto xs j → Heaped upto xs
+  pub rise_ends : (xs : List X) (j : ℕ) → j ≤ 0 → Rising upto xs j → Heaped upto xs
   unfolding Rising
-  rise-ends xs j z h = heaped xs (λ p k d c l. h.0 p k d c l (omega arith))
+  rise_ends xs j z h = heaped xs (λ p k d c l. h.0 p k d c l (omega arith))
 
   pub rise_rests : (xs : List X) (p j : ℕ) → Child p j → ((d : X) → upto (get_or xs p d) (get_or xs j d) ≡ true) → Rising upto xs j → Heaped upto xs
   unfolding Rising
@@ -116,28 +116,28 @@ module _ {X : Type 0} (upto : X → X → Bool) (total : (x y : X) → upto x y 
       )
 
   -- the least child, whatever stands in the hole
-  pub least-child-set : (s : List X) (j c : ℕ) (x : X) → Child j c → LeastChild upto s j c → LeastChild upto (set s j x) j c
+  pub least_child_set : (s : List X) (j c : ℕ) (x : X) → Child j c → LeastChild upto s j c → LeastChild upto (set s j x) j c
   unfolding LeastChild
-  least-child-set s j c x o b k d a l =
+  least_child_set s j c x o b k d a l =
       let wide = length-set s j x in
       by _ _ _ _ (get_or-set_other s j c x d (omega arith)) (get_or-set_other s j k x d (omega arith)) (b k d a (omega arith))
 
   -- ---- which child is the lesser
 
-  pub left-only : (xs : List X) (j : ℕ) → length xs ≤ j * 2 + 2 → LeastChild upto xs j (j * 2 + 1)
+  pub left_only : (xs : List X) (j : ℕ) → length xs ≤ j * 2 + 2 → LeastChild upto xs j (j * 2 + 1)
   unfolding LeastChild
-  left-only xs j z k d c l = by _ _ _ _ refl (at xs d k (j * 2 + 1) (omega arith)) (itself _ _ refl)
+  left_only xs j z k d c l = by _ _ _ _ refl (at xs d k (j * 2 + 1) (omega arith)) (itself _ _ refl)
 
-  pub left-least : (xs : List X) (j : ℕ) → ((d : X) → upto (get_or xs (j * 2 + 1) d) (get_or xs (j * 2 + 1 + 1) d) ≡ true) → LeastChild upto xs j (j * 2 + 1)
+  pub left_least : (xs : List X) (j : ℕ) → ((d : X) → upto (get_or xs (j * 2 + 1) d) (get_or xs (j * 2 + 1 + 1) d) ≡ true) → LeastChild upto xs j (j * 2 + 1)
   unfolding LeastChild
-  left-least xs j t k d c l = ⊎_elim
+  left_least xs j t k d c l = ⊎_elim
       (λ e. by _ _ _ _ refl (at xs d k (j * 2 + 1) e) (itself _ _ refl))
       (λ n. by _ _ _ _ refl (at xs d k (j * 2 + 1 + 1) (omega arith)) (t d))
       (cases_eq k (j * 2 + 1))
 
-  pub right-least : (xs : List X) (j : ℕ) → ((d : X) → upto (get_or xs (j * 2 + 1) d) (get_or xs (j * 2 + 1 + 1) d) ≡ false) → LeastChild upto xs j (j * 2 + 1 + 1)
+  pub right_least : (xs : List X) (j : ℕ) → ((d : X) → upto (get_or xs (j * 2 + 1) d) (get_or xs (j * 2 + 1 + 1) d) ≡ false) → LeastChild upto xs j (j * 2 + 1 + 1)
   unfolding LeastChild
-  right-least xs j t k d c l = ⊎_elim
+  right_least xs j t k d c l = ⊎_elim
       (λ e. by _ _ _ _ refl (at xs d k (j * 2 + 1) e) (total _ _ (t d)))
       (λ n. by _ _ _ _ refl (at xs d k (j * 2 + 1 + 1) (omega arith)) (itself _ _ refl))
       (cases_eq k (j * 2 + 1))
@@ -151,9 +151,9 @@ module _ {X : Type 0} (upto : X → X → Bool) (total : (x y : X) → upto x y 
       (λ n. transitive _ _ _ (first xs h fuel ((k - 1) / 2) d (omega arith) (omega arith)) (h ((k - 1) / 2) k d (omega arith, omega arith) l))
       (cases_eq k 0)
 
-  pub first-least : (xs : List X) (x : X) → ((d : X) → x ≡ get_or xs 0 d) → Heaped upto xs → Least upto x xs
+  pub first_least : (xs : List X) (x : X) → ((d : X) → x ≡ get_or xs 0 d) → Heaped upto xs → Least upto x xs
   unfolding Least
-  first-least xs x e h k d l = by _ _ _ _ (e d) refl (first xs (tree xs h) k k d (omega arith) l)
+  first_least xs x e h k d l = by _ _ _ _ (e d) refl (first xs (tree xs h) k k d (omega arith) l)
 
   -- ---- one more at the end, any record in the place j, and all but the last
 

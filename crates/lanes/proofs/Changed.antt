@@ -25,13 +25,13 @@ from_set g k (suc i) (v ∷ ls) w l =
 
 -- what counts leads of lane k + i only
 module _ (g : Lead → ℕ) where
-  none-at : (j : ℕ) (w : List Request) → ((l : Lead) → l.lane ≡ j → g l ≡ 0) → sum_by g (lead_at j w) ≡ 0
-  none-at j [] z = refl
-  none-at j (r ∷ rs) z = omega (arith, sum_by-cons g (record { start = r.start; lane = j }) [], z (record { start = r.start; lane = j }) refl)
+  none_at : (j : ℕ) (w : List Request) → ((l : Lead) → l.lane ≡ j → g l ≡ 0) → sum_by g (lead_at j w) ≡ 0
+  none_at j [] z = refl
+  none_at j (r ∷ rs) z = omega (arith, sum_by-cons g (record { start = r.start; lane = j }) [], z (record { start = r.start; lane = j }) refl)
 
   none_from : (k t : ℕ) (ls : List (List Request)) → t < k → ((l : Lead) → (l.lane ≡ t → ⊥) → g l ≡ 0) → sum_by g (leads_from k ls) ≡ 0
   none_from k t [] b z = refl
-  none_from k t (w ∷ ls) b z = omega (arith, sum_by-append g (lead_at k w) (leads_from (suc k) ls), none-at k w (λ l e. z l (λ f. omega (arith, e, f, b))), none_from (suc k) t ls (omega (arith, b)) z)
+  none_from k t (w ∷ ls) b z = omega (arith, sum_by-append g (lead_at k w) (leads_from (suc k) ls), none_at k w (λ l e. z l (λ f. omega (arith, e, f, b))), none_from (suc k) t ls (omega (arith, b)) z)
 
   only_at : (k i : ℕ) (ls : List (List Request)) → ((l : Lead) → (l.lane ≡ k + i → ⊥) → g l ≡ 0) → sum_by g (leads_from k ls) ≡ sum_by g (lead_at (k + i) (get_or ls i []))
   only_at k i [] z = refl
@@ -39,7 +39,7 @@ module _ (g : Lead → ℕ) where
       omega (arith, sum_by-append g (lead_at k w) (leads_from (suc k) ls), none_from (suc k) (k + zero) ls (omega arith) z, ap (λ j. sum_by g (lead_at j w)) {x = k + zero} {y = k} (omega arith))
   only_at k (suc i) (w ∷ ls) z =
       let on : k + suc i ≡ suc k + i = omega arith in
-      omega (arith, sum_by-append g (lead_at k w) (leads_from (suc k) ls), none-at k w (λ l e. z l (λ f. omega (arith, e, f))), only_at (suc k) i ls (λ l f. z l (λ e. f (e ∙ on))), ap (λ j. sum_by g (lead_at j (get_or ls i []))) on)
+      omega (arith, sum_by-append g (lead_at k w) (leads_from (suc k) ls), none_at k w (λ l e. z l (λ f. omega (arith, e, f))), only_at (suc k) i ls (λ l f. z l (λ e. f (e ∙ on))), ap (λ j. sum_by g (lead_at j (get_or ls i []))) on)
 
 lane_only : (i : ℕ) (l : Lead) → (l.lane ≡ i → ⊥) → lane_is i l ≡ 0
 lane_only i l n = cond-false {A = ℕ} (eqb l.lane i) 1 0 (ne_eqb l.lane i n)
@@ -139,23 +139,23 @@ module _ (ls : List Lane) (held : List Lead) (eight : length ls ≡ 8) (tied : T
   inside = omega (arith, length-map ls waits)
 
   -- room for the lead of a lane that has none
-  pub keeps-room : sum_by (lane_is i) held ≡ 0 → length held < 8
-  keeps-room z = omega (arith, tied_room held (lanes_in ls) i inside tied z, length-map ls waits)
+  pub keeps_room : sum_by (lane_is i) held ≡ 0 → length held < 8
+  keeps_room z = omega (arith, tied_room held (lanes_in ls) i inside tied z, length-map ls waits)
 
-  pub keeps-refused : (ls' : List Lane) → lanes_in ls' ≡ lanes_in ls → Kept ls' held
-  keeps-refused ls' s = (omega (arith, length-map ls waits, length-map ls' waits, ap length s), subst (Tied held) (sym s) tied)
+  pub keeps_refused : (ls' : List Lane) → lanes_in ls' ≡ lanes_in ls → Kept ls' held
+  keeps_refused ls' s = (omega (arith, length-map ls waits, length-map ls' waits, ap length s), subst (Tied held) (sym s) tied)
 
-  pub keeps-push : (ls' : List Lane) (held' : List Lead) (x : Request) (first : Option Request) (new : Option Lead) → lanes_in ls' ≡ set (lanes_in ls) i (insert by_start x (get_or (lanes_in ls) i [])) → first ≡ head_of (get_or (lanes_in ls) i []) → true ≡ goes_first x.start first → option_to_list new ≡ record { start = x.start; lane = i } ∷ [] → Updates i new held held' → Kept ls' held'
-  keeps-push ls' held' x first new s f t e u =
+  pub keeps_push : (ls' : List Lane) (held' : List Lead) (x : Request) (first : Option Request) (new : Option Lead) → lanes_in ls' ≡ set (lanes_in ls) i (insert by_start x (get_or (lanes_in ls) i [])) → first ≡ head_of (get_or (lanes_in ls) i []) → true ≡ goes_first x.start first → option_to_list new ≡ record { start = x.start; lane = i } ∷ [] → Updates i new held held' → Kept ls' held'
+  keeps_push ls' held' x first new s f t e u =
       let w = insert by_start x (get_or (lanes_in ls) i []) in
       (as_long ls ls' i w eight s, subst (Tied held') (sym s) (tied_update held held' (lanes_in ls) i w new inside tied u (e ∙ lead_new i x (get_or (lanes_in ls) i []) (t ∙ ap (goes_first x.start) f))))
 
-  pub keeps-behind : (ls' : List Lane) (x : Request) (first : Option Request) → lanes_in ls' ≡ set (lanes_in ls) i (insert by_start x (get_or (lanes_in ls) i [])) → first ≡ head_of (get_or (lanes_in ls) i []) → false ≡ goes_first x.start first → Kept ls' held
-  keeps-behind ls' x first s f t =
+  pub keeps_behind : (ls' : List Lane) (x : Request) (first : Option Request) → lanes_in ls' ≡ set (lanes_in ls) i (insert by_start x (get_or (lanes_in ls) i [])) → first ≡ head_of (get_or (lanes_in ls) i []) → false ≡ goes_first x.start first → Kept ls' held
+  keeps_behind ls' x first s f t =
       let w = insert by_start x (get_or (lanes_in ls) i []) in
       (as_long ls ls' i w eight s, subst (Tied held) (sym s) (tied_same held (lanes_in ls) i w inside tied (lead_stays i x (get_or (lanes_in ls) i []) (t ∙ ap (goes_first x.start) f))))
 
-  pub keeps-pop : (ls' : List Lane) (held' : List Lead) (rest : List Request) (next : Option Request) (new : Option Lead) → lanes_in ls' ≡ set (lanes_in ls) i rest → next ≡ head_of (get_or (lanes_in ls') i []) → option_to_list new ≡ lead_at i (option_to_list next) → Updates i new held held' → Kept ls' held'
-  keeps-pop ls' held' rest next new s f e u =
+  pub keeps_pop : (ls' : List Lane) (held' : List Lead) (rest : List Request) (next : Option Request) (new : Option Lead) → lanes_in ls' ≡ set (lanes_in ls) i rest → next ≡ head_of (get_or (lanes_in ls') i []) → option_to_list new ≡ lead_at i (option_to_list next) → Updates i new held held' → Kept ls' held'
+  keeps_pop ls' held' rest next new s f e u =
       let left : get_or (lanes_in ls') i [] ≡ rest = ap (λ l. get_or l i []) s ∙ get_or-set_same (lanes_in ls) i rest [] inside in
       (as_long ls ls' i rest eight s, subst (Tied held') (sym s) (tied_update held held' (lanes_in ls) i rest new inside tied u (e ∙ ap (λ o. lead_at i (option_to_list o)) (f ∙ ap head_of left) ∙ lead_head i rest)))

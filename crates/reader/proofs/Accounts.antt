@@ -17,9 +17,9 @@ use Rattle.reader.specs.Format.{Read, fault, and_then, line_as, lines_into, sect
 use Rattle.reader.specs.Grammar.{head_line, flow_line, param_line, lines_of, section_of, sheet_text, Stands, neither, just_d, both, Text, TextOnlyOf, NoText}
 use Rattle.reader.specs.Lines.{Progress, letter_of, most_of, count_of, line_into}
 use Rattle.reader.proofs.Forms.{count_writes}
-use Rattle.reader.proofs.Locals.{and_then_cases, local_line, local_lines, local_section, local_sections, used_lines, local-then}
+use Rattle.reader.proofs.Locals.{and_then_cases, local_line, local_lines, local_section, local_sections, used_lines, local_then}
 use Rattle.reader.proofs.Sizes.{Sane, sane_count, sane_line, sane_sections, text_of}
-use Rattle.reader.proofs.Texts.{line_ok, Adding, flows_add, lanes_add, section-writes, param_writes, sections_write, text_reads, text_writes, no_text, one_sheet}
+use Rattle.reader.proofs.Texts.{line_ok, Adding, flows_add, lanes_add, section_writes, param_writes, sections_write, text_reads, text_writes, no_text, one_sheet}
 
 -- a reader that fails at once has read no line
 at_once : {A : Type 0} (r : Result (Read A) SheetFault) (k : ℕ) → Sane r (k + 1) → (f : SheetFault) → r ≡ Err f → k ≤ f.line → (bytes : List ℕ) → first_lines (f.line - k) bytes ≡ []
@@ -49,15 +49,15 @@ pub record Begins {A : Type 0} (letter : ℕ) (w : A → List ℕ) (p : A → Bo
   pub fit : all_of p items ≡ true
 
 module _ {A : Type 0} {due : Section} {w : A → List ℕ} {p : A → Bool} {add : Progress → List A → Progress} {size : Progress → ℕ} (a : Adding due w p add size) (v : A) (fits : p v ≡ true) where
-  lines-front : (g : Progress) (n : ℕ) (bytes : List ℕ) (k : ℕ) (f : SheetFault) → lines_into (line_into due) g n bytes k ≡ Err f → (vs : List A) × (first_lines (f.line - k) bytes ≡ lines_of w vs) × (length vs < n) × (all_of p vs ≡ true)
-  lines-front g zero bytes k f e = let z : ◌≡◌ {A = ℕ} 0 1 = cc in absurd (omega arith)
-  lines-front g (suc n) bytes k f e =
+  lines_front : (g : Progress) (n : ℕ) (bytes : List ℕ) (k : ℕ) (f : SheetFault) → lines_into (line_into due) g n bytes k ≡ Err f → (vs : List A) × (first_lines (f.line - k) bytes ≡ lines_of w vs) × (length vs < n) × (all_of p vs ≡ true)
+  lines_front g zero bytes k f e = let z : ◌≡◌ {A = ℕ} 0 1 = cc in absurd (omega arith)
+  lines_front g (suc n) bytes k f e =
       ⊎_elim (λ c. ([], at_once (line_as (line_into due g) bytes k) k (sane_line due g bytes k) f c ((local_line (line_into due g)).late bytes k f c) bytes, omega arith, refl))
       (λ c.
       let x = c.0 in
       let l = line_ok (line_into due g) bytes k x c.1 in
       let u = a.writes g l.0 x.got l.2 in
-      let r = lines-front x.got n x.rest x.next f c.2 in
+      let r = lines_front x.got n x.rest x.next f c.2 in
       let late = (local_lines (line_into due) n x.got).late x.rest x.next f c.2 in
       let text : bytes ≡ (w u.0 ++ 10 ∷ []) ++ x.rest = l.1 ∙ ap (λ q. q ++ 10 ∷ x.rest) u.1 ∙ sym (append_assoc (w u.0) (10 ∷ []) x.rest) in (
         u.0 ∷ r.0,
@@ -82,8 +82,8 @@ module _ {A : Type 0} {due : Section} {w : A → List ℕ} {p : A → Bool} {add
         fit = all_append p vs more fit (all_replicate p (n - length vs) v fits);
       }
 
-  pub section-front : (g : Progress) (bytes : List ℕ) (k : ℕ) (f : SheetFault) → section due g bytes k ≡ Err f → Begins (letter_of due) w p (most_of due) (first_lines (f.line - k) bytes)
-  section-front g bytes k f e =
+  pub section_front : (g : Progress) (bytes : List ℕ) (k : ℕ) (f : SheetFault) → section due g bytes k ≡ Err f → Begins (letter_of due) w p (most_of due) (first_lines (f.line - k) bytes)
+  section_front g bytes k f e =
       ⊎_elim
       (λ c.
       let none = at_once (line_as (count_of due) bytes k) k (sane_count due bytes k) f c ((local_line (count_of due)).late bytes k f c) bytes in
@@ -92,7 +92,7 @@ module _ {A : Type 0} {due : Section} {w : A → List ℕ} {p : A → Bool} {add
       let x = c.0 in
       let l = line_ok (count_of due) bytes k x c.1 in
       let u = count_writes due l.0 x.got l.2 in
-      let r = lines-front g x.got x.rest x.next f c.2 in
+      let r = lines_front g x.got x.rest x.next f c.2 in
       let late = (local_lines (line_into due) x.got g).late x.rest x.next f c.2 in
       let head = head_line (letter_of due) x.got in
       let text : bytes ≡ (head ++ 10 ∷ []) ++ x.rest = l.1 ∙ ap (λ q. q ++ 10 ∷ x.rest) u.0 ∙ sym (append_assoc head (10 ∷ []) x.rest) in
@@ -230,20 +230,20 @@ one_flow = record { weight = 1; longest = 1 }
 sections_front : (bytes : List ℕ) (f : SheetFault) → sections bytes 1 ≡ Err f → CanBecome (first_lines (f.line - 1) bytes) ⊎ Stuck (first_lines (f.line - 1) bytes)
 unfolding one_flow
 sections_front bytes f e =
-    ⊎_elim (λ c. inl (in_flows (first_lines (f.line - 1) bytes) (section-front flows_add one_flow refl start bytes 1 f c)))
+    ⊎_elim (λ c. inl (in_flows (first_lines (f.line - 1) bytes) (section_front flows_add one_flow refl start bytes 1 f c)))
     (λ c.
     let x = c.0 in
-    let fw = section-writes flows_add start bytes 1 x c.1 in
+    let fw = section_writes flows_add start bytes 1 x c.1 in
     let fs = fw.0 in
     let ff : FlowsFit fs = (fw.2, fw.3) in
     let head = section_of 70 flow_line fs in
-    let late = (local-then (local_section Lanes x.got) (λ l. local_section Params l)).late x.rest x.next f c.2 in
+    let late = (local_then (local_section Lanes x.got) (λ l. local_section Params l)).late x.rest x.next f c.2 in
     let first = used_lines bytes 1 x ((local_section Flows start).used bytes 1 x c.1) head fw.1 f.line late in
     subst (λ q. CanBecome q ⊎ Stuck q) (sym first) (
-    ⊎_elim (λ b. inl (in_lanes fs ff (first_lines (f.line - x.next) x.rest) (section-front lanes_add 1 refl x.got x.rest x.next f b)))
+    ⊎_elim (λ b. inl (in_lanes fs ff (first_lines (f.line - x.next) x.rest) (section_front lanes_add 1 refl x.got x.rest x.next f b)))
     (λ b.
     let y = b.0 in
-    let lw = section-writes lanes_add x.got x.rest x.next y b.1 in
+    let lw = section_writes lanes_add x.got x.rest x.next y b.1 in
     let ls = lw.0 in
     let lf : LanesFit ls = (lw.2, lw.3) in
     let mid = section_of 76 decimal ls in
@@ -355,14 +355,14 @@ small_line bytes f e =
 
 -- what every reading tells
 module _ {A : Type 0} (bytes : List ℕ) (before after : Sheet) where
-  pub reads-text : (r : Result A SheetFault) → Reads bytes before after r → MatchResult r (λ _. TextOnlyOf (content_of after) bytes) (λ _. NoText bytes)
-  reads-text (Ok v) h = let t = text_writes bytes (content_of after) h in record { is = t; only = λ other o. one_sheet bytes other (content_of after) o t }
-  reads-text (Err f) h = no_text bytes f h.0
+  pub reads_text : (r : Result A SheetFault) → Reads bytes before after r → MatchResult r (λ _. TextOnlyOf (content_of after) bytes) (λ _. NoText bytes)
+  reads_text (Ok v) h = let t = text_writes bytes (content_of after) h in record { is = t; only = λ other o. one_sheet bytes other (content_of after) o t }
+  reads_text (Err f) h = no_text bytes f h.0
 
-  pub reads-account : (r : Result A SheetFault) → Reads bytes before after r → IfErr r (λ f. Account bytes f)
-  reads-account (Ok v) h = tt
-  reads-account (Err f) h = accounts bytes f h.0
+  pub reads_account : (r : Result A SheetFault) → Reads bytes before after r → IfErr r (λ f. Account bytes f)
+  reads_account (Ok v) h = tt
+  reads_account (Err f) h = accounts bytes f h.0
 
-  pub reads-small : (r : Result A SheetFault) → Reads bytes before after r → IfErr r (λ f. f.line ≤ 30)
-  reads-small (Ok v) h = tt
-  reads-small (Err f) h = small_line bytes f h.0
+  pub reads_small : (r : Result A SheetFault) → Reads bytes before after r → IfErr r (λ f. f.line ≤ 30)
+  reads_small (Ok v) h = tt
+  reads_small (Err f) h = small_line bytes f h.0

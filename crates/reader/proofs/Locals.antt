@@ -88,21 +88,21 @@ ends_got {A} (Ok v) rest other k x e =
 ends_got (Err why) rest other k x e = let z : ◌≡◌ {A = ℕ} 0 1 = cc in absurd (omega arith)
 
 module _ {A : Type 0} (form : List ℕ → Result A Refusal) (n k : ℕ) where
-  by-err : (o q : Option (List ℕ × List ℕ)) → option_map (shortened n) o ≡ option_map (shortened n) q → (f : SheetFault) → line_by form o k ≡ Err f → (f.line ≡ k) × (line_by form q k ≡ Err f)
+  by_err : (o q : Option (List ℕ × List ℕ)) → option_map (shortened n) o ≡ option_map (shortened n) q → (f : SheetFault) → line_by form o k ≡ Err f → (f.line ≡ k) × (line_by form q k ≡ Err f)
   unfolding line_by
-  by-err None None s f e = let h : ◌≡◌ {A = SheetFault} (fault Form k) f = cc in (sym (ap (λ (g : SheetFault). g.line) h), e)
-  by-err None (Some q) s f e = let z : ◌≡◌ {A = ℕ} 0 1 = cc s in absurd (omega arith)
-  by-err (Some p) None s f e = let z : ◌≡◌ {A = ℕ} 0 1 = cc s in absurd (omega arith)
-  by-err (Some p) (Some q) s f e =
+  by_err None None s f e = let h : ◌≡◌ {A = SheetFault} (fault Form k) f = cc in (sym (ap (λ (g : SheetFault). g.line) h), e)
+  by_err None (Some q) s f e = let z : ◌≡◌ {A = ℕ} 0 1 = cc s in absurd (omega arith)
+  by_err (Some p) None s f e = let z : ◌≡◌ {A = ℕ} 0 1 = cc s in absurd (omega arith)
+  by_err (Some p) (Some q) s f e =
       let same : ◌≡◌ {A = List ℕ × List ℕ} (p.0, first_lines n p.1) (q.0, first_lines n q.1) = cc s in
       let r = ends_err (form p.0) p.1 q.1 k f e in
       (r.0, subst (λ l. line_ends (form l) q.1 k ≡ Err f) (ap (λ (t : List ℕ × List ℕ). t.0) same) r.1)
 
-  by-ok : (o q : Option (List ℕ × List ℕ)) → option_map (shortened n) o ≡ option_map (shortened n) q → (x : Read A) → line_by form o k ≡ Ok x → (r : List ℕ) × (line_by form q k ≡ Ok (record { got = x.got; rest = r; next = x.next })) × (first_lines n x.rest ≡ first_lines n r)
+  by_ok : (o q : Option (List ℕ × List ℕ)) → option_map (shortened n) o ≡ option_map (shortened n) q → (x : Read A) → line_by form o k ≡ Ok x → (r : List ℕ) × (line_by form q k ≡ Ok (record { got = x.got; rest = r; next = x.next })) × (first_lines n x.rest ≡ first_lines n r)
   unfolding line_by
-  by-ok None q s x e = let z : ◌≡◌ {A = ℕ} 0 1 = cc e in absurd (omega arith)
-  by-ok (Some p) None s x e = let z : ◌≡◌ {A = ℕ} 0 1 = cc s in absurd (omega arith)
-  by-ok (Some p) (Some q) s x e =
+  by_ok None q s x e = let z : ◌≡◌ {A = ℕ} 0 1 = cc e in absurd (omega arith)
+  by_ok (Some p) None s x e = let z : ◌≡◌ {A = ℕ} 0 1 = cc s in absurd (omega arith)
+  by_ok (Some p) (Some q) s x e =
       let same : ◌≡◌ {A = List ℕ × List ℕ} (p.0, first_lines n p.1) (q.0, first_lines n q.1) = cc s in
       let r = ends_got (form p.0) p.1 q.1 k x e in
       (q.1, subst (λ l. line_ends (form l) q.1 k ≡ Ok (record { got = x.got; rest = q.1; next = x.next })) (ap (λ (t : List ℕ × List ℕ). t.0) same) r.2, ap (first_lines n) r.1 ∙ ap (λ (t : List ℕ × List ℕ). t.1) same)
@@ -137,11 +137,11 @@ line_used form bytes m x e =
 pub local_line : {A : Type 0} (form : List ℕ → Result A Refusal) → Local (line_as form)
 unfolding line_by
 local_line form = record {
-  late = λ bytes m f e. omega (arith, (by-err form 0 m (cut_at 10 bytes) (cut_at 10 bytes) refl f e).0);
+  late = λ bytes m f e. omega (arith, (by_err form 0 m (cut_at 10 bytes) (cut_at 10 bytes) refl f e).0);
   errs = λ bytes m f e other s.
-      let here = (by-err form 0 m (cut_at 10 bytes) (cut_at 10 bytes) refl f e).0 in
+      let here = (by_err form 0 m (cut_at 10 bytes) (cut_at 10 bytes) refl f e).0 in
       let one : f.line + 1 - m ≡ 1 = omega arith in
-      (by-err form 0 m (cut_at 10 bytes) (cut_at 10 other) (cuts_agree 0 bytes other (subst (λ n. first_lines n bytes ≡ first_lines n other) one s)) f e).1;
+      (by_err form 0 m (cut_at 10 bytes) (cut_at 10 other) (cuts_agree 0 bytes other (subst (λ n. first_lines n bytes ≡ first_lines n other) one s)) f e).1;
   used = λ bytes m x e.
       let u = line_used form bytes m x e in
       record {
@@ -155,22 +155,22 @@ local_line form = record {
   oks = λ bytes m x e t other h s.
       let u = line_used form bytes m x e in
       let more : t - m ≡ suc (t - x.next) = omega (arith, u.3) in
-      by-ok form (t - x.next) m (cut_at 10 bytes) (cut_at 10 other) (cuts_agree (t - x.next) bytes other (subst (λ n. first_lines n bytes ≡ first_lines n other) more s)) x e;
+      by_ok form (t - x.next) m (cut_at 10 bytes) (cut_at 10 other) (cuts_agree (t - x.next) bytes other (subst (λ n. first_lines n bytes ≡ first_lines n other) more s)) x e;
 }
 
 module _ {A B : Type 0} {g : List ℕ → ℕ → Result (Read A) SheetFault} {h : A → List ℕ → ℕ → Result (Read B) SheetFault} (lg : Local g) (lh : (v : A) → Local (h v)) where
   then : List ℕ → ℕ → Result (Read B) SheetFault
   then bytes m = and_then (g bytes m) (λ x. h x.got x.rest x.next)
 
-  then-late : (bytes : List ℕ) (m : ℕ) (f : SheetFault) → then bytes m ≡ Err f → m ≤ f.line
+  then_late : (bytes : List ℕ) (m : ℕ) (f : SheetFault) → then bytes m ≡ Err f → m ≤ f.line
   unfolding then
-  then-late bytes m f e =
+  then_late bytes m f e =
       ⊎_elim (λ c. lg.late bytes m f c) (λ c. omega (arith, (lg.used bytes m c.0 c.1).onward, (lh c.0.got).late c.0.rest c.0.next f c.2))
       (and_then_cases (g bytes m) (λ x. h x.got x.rest x.next) f e)
 
-  then-errs : (bytes : List ℕ) (m : ℕ) (f : SheetFault) → then bytes m ≡ Err f → (other : List ℕ) → first_lines (f.line + 1 - m) bytes ≡ first_lines (f.line + 1 - m) other → then other m ≡ Err f
+  then_errs : (bytes : List ℕ) (m : ℕ) (f : SheetFault) → then bytes m ≡ Err f → (other : List ℕ) → first_lines (f.line + 1 - m) bytes ≡ first_lines (f.line + 1 - m) other → then other m ≡ Err f
   unfolding then
-  then-errs bytes m f e other s =
+  then_errs bytes m f e other s =
       ⊎_elim (λ c. ap (λ r. and_then r (λ x. h x.got x.rest x.next)) (lg.errs bytes m f c other s))
       (λ c.
       let x = c.0 in
@@ -179,9 +179,9 @@ module _ {A B : Type 0} {g : List ℕ → ℕ → Result (Read A) SheetFault} {h
       ap (λ r. and_then r (λ y. h y.got y.rest y.next)) o.1 ∙ (lh x.got).errs x.rest x.next f c.2 o.0 o.2)
       (and_then_cases (g bytes m) (λ x. h x.got x.rest x.next) f e)
 
-  then-used : (bytes : List ℕ) (m : ℕ) (y : Read B) → then bytes m ≡ Ok y → Consumed bytes m y
+  then_used : (bytes : List ℕ) (m : ℕ) (y : Read B) → then bytes m ≡ Ok y → Consumed bytes m y
   unfolding then
-  then-used bytes m y e =
+  then_used bytes m y e =
       let c = and_then_ok (g bytes m) _ y e in
       let x = c.0 in
       let u = lg.used bytes m x c.1 in
@@ -195,9 +195,9 @@ module _ {A B : Type 0} {g : List ℕ → ℕ → Result (Read A) SheetFault} {h
             ∙ sym (append_assoc u.text v.text (first_lines (j - y.next) r));
       }
 
-  then-oks : (bytes : List ℕ) (m : ℕ) (y : Read B) → then bytes m ≡ Ok y → (t : ℕ) (other : List ℕ) → y.next ≤ t → first_lines (t - m) bytes ≡ first_lines (t - m) other → (r : List ℕ) × (then other m ≡ Ok (record { got = y.got; rest = r; next = y.next })) × (first_lines (t - y.next) y.rest ≡ first_lines (t - y.next) r)
+  then_oks : (bytes : List ℕ) (m : ℕ) (y : Read B) → then bytes m ≡ Ok y → (t : ℕ) (other : List ℕ) → y.next ≤ t → first_lines (t - m) bytes ≡ first_lines (t - m) other → (r : List ℕ) × (then other m ≡ Ok (record { got = y.got; rest = r; next = y.next })) × (first_lines (t - y.next) y.rest ≡ first_lines (t - y.next) r)
   unfolding then
-  then-oks bytes m y e t other l s =
+  then_oks bytes m y e t other l s =
       let c = and_then_ok (g bytes m) _ y e in
       let x = c.0 in
       let v = (lh x.got).used x.rest x.next y c.2 in
@@ -205,9 +205,9 @@ module _ {A B : Type 0} {g : List ℕ → ℕ → Result (Read A) SheetFault} {h
       let p = (lh x.got).oks x.rest x.next y c.2 t o.0 l o.2 in
       (p.0, ap (λ r. and_then r (λ z. h z.got z.rest z.next)) o.1 ∙ p.1, p.2)
 
-  pub local-then : Local (λ bytes m. and_then (g bytes m) (λ x. h x.got x.rest x.next))
+  pub local_then : Local (λ bytes m. and_then (g bytes m) (λ x. h x.got x.rest x.next))
   unfolding then
-  local-then = record { late = then-late; errs = then-errs; used = then-used; oks = then-oks }
+  local_then = record { late = then_late; errs = then_errs; used = then_used; oks = then_oks }
 
 local_none : {S : Type 0} (so : S) → Local (λ bytes m. Ok (record { got = so; rest = bytes; next = m }))
 local_none {S} so = record {
@@ -227,13 +227,13 @@ local_none {S} so = record {
 
 pub local_lines : {S : Type 0} (form : S → List ℕ → Result S Refusal) (n : ℕ) (so : S) → Local (lines_into form so n)
 local_lines form zero so = local_none so
-local_lines form (suc n) so = local-then (local_line (form so)) (λ s. local_lines form n s)
+local_lines form (suc n) so = local_then (local_line (form so)) (λ s. local_lines form n s)
 
 pub local_section : (due : Section) (so : Progress) → Local (section due so)
-local_section due so = local-then (local_line (count_of due)) (λ n. local_lines (line_into due) n so)
+local_section due so = local_then (local_line (count_of due)) (λ n. local_lines (line_into due) n so)
 
 pub local_sections : Local sections
-local_sections = local-then (local_section Flows start) (λ f. local-then (local_section Lanes f) (λ l. local_section Params l))
+local_sections = local_then (local_section Flows start) (λ f. local_then (local_section Lanes f) (λ l. local_section Params l))
 
 -- the first lines of what was consumed, and of what follows
 pub used_lines : {A : Type 0} (bytes : List ℕ) (m : ℕ) (x : Read A) → Consumed bytes m x → (text : List ℕ) → bytes ≡ text ++ x.rest → (j : ℕ) → x.next ≤ j → first_lines (j - m) bytes ≡ text ++ first_lines (j - x.next) x.rest

@@ -99,12 +99,12 @@ module _ {A : Type 0} {due : Section} {w : A → List ℕ} {p : A → Bool} {add
         now = r.now ∙ ap (λ q. add q r.items) u.3 ∙ a.more g v r.items;
       }
 
-  lines-read : (g : Progress) (vs : List A) (rest : List ℕ) (k : ℕ) → all_of p vs ≡ true → size g + length vs ≤ most_of due → (j : ℕ) × (lines_into (line_into due) g (length vs) (lines_of w vs ++ rest) k ≡ Ok (record { got = add g vs; rest = rest; next = j }))
-  lines-read g [] rest k h few = (k, ap (λ q. Ok (record { got = q; rest = rest; next = k })) (sym (a.nil g)))
-  lines-read g (v ∷ vs) rest k h few =
+  lines_read : (g : Progress) (vs : List A) (rest : List ℕ) (k : ℕ) → all_of p vs ≡ true → size g + length vs ≤ most_of due → (j : ℕ) × (lines_into (line_into due) g (length vs) (lines_of w vs ++ rest) k ≡ Ok (record { got = add g vs; rest = rest; next = j }))
+  lines_read g [] rest k h few = (k, ap (λ q. Ok (record { got = q; rest = rest; next = k })) (sym (a.nil g)))
+  lines_read g (v ∷ vs) rest k h few =
       let t = and_parts (p v) (all_of p vs) h in
       let l = a.reads g v t.0 (omega arith) in
-      let r = lines-read (add g (v ∷ [])) vs rest (k + 1) t.1 (omega (arith, a.grows g v)) in (
+      let r = lines_read (add g (v ∷ [])) vs rest (k + 1) t.1 (omega (arith, a.grows g v)) in (
         r.0,
         ap (λ b. lines_into (line_into due) g (suc (length vs)) b k) (append_assoc (w v) (10 ∷ lines_of w vs) rest)
             ∙ ap (λ q. and_then q (λ x. lines_into (line_into due) x.got (length vs) x.rest x.next)) (line_goes (line_into due g) (w v) (add g (v ∷ [])) (lines_of w vs ++ rest) k l.0 l.1)
@@ -112,8 +112,8 @@ module _ {A : Type 0} {due : Section} {w : A → List ℕ} {p : A → Bool} {add
             ∙ ap (λ q. Ok (record { got = q; rest = rest; next = r.0 })) (a.more g v vs),
       )
 
-  pub section-writes : (g : Progress) (bytes : List ℕ) (k : ℕ) (x : Read Progress) → section due g bytes k ≡ Ok x → (vs : List A) × (bytes ≡ section_of (letter_of due) w vs ++ x.rest) × (length vs ≤ most_of due) × (all_of p vs ≡ true) × (x.got ≡ add g vs)
-  section-writes g bytes k x e =
+  pub section_writes : (g : Progress) (bytes : List ℕ) (k : ℕ) (x : Read Progress) → section due g bytes k ≡ Ok x → (vs : List A) × (bytes ≡ section_of (letter_of due) w vs ++ x.rest) × (length vs ≤ most_of due) × (all_of p vs ≡ true) × (x.got ≡ add g vs)
+  section_writes g bytes k x e =
       let h = and_then_ok (line_as (count_of due) bytes k) _ x e in
       let y = h.0 in
       let t = line_ok (count_of due) bytes k y h.1 in
@@ -128,10 +128,10 @@ module _ {A : Type 0} {due : Section} {w : A → List ℕ} {p : A → Bool} {add
         r.now,
       )
 
-  section-reads : (g : Progress) (vs : List A) (rest : List ℕ) (k : ℕ) → size g + length vs ≤ most_of due → most_of due < 10 ^ 10 → (1 < letter_of due) × (letter_of due ≡ 10 → ⊥) → all_of p vs ≡ true → (j : ℕ) × (section due g (section_of (letter_of due) w vs ++ rest) k ≡ Ok (record { got = add g vs; rest = rest; next = j }))
-  section-reads g vs rest k few small big h =
+  section_reads : (g : Progress) (vs : List A) (rest : List ℕ) (k : ℕ) → size g + length vs ≤ most_of due → most_of due < 10 ^ 10 → (1 < letter_of due) × (letter_of due ≡ 10 → ⊥) → all_of p vs ≡ true → (j : ℕ) × (section due g (section_of (letter_of due) w vs ++ rest) k ≡ Ok (record { got = add g vs; rest = rest; next = j }))
+  section_reads g vs rest k few small big h =
       let c = count_reads due (length vs) (omega arith) (omega arith) big in
-      let r = lines-read g vs rest (k + 1) h few in (
+      let r = lines_read g vs rest (k + 1) h few in (
         r.0,
         ap (λ b. section due g b k) (append_assoc (head_line (letter_of due) (length vs)) (10 ∷ lines_of w vs) rest)
             ∙ ap (λ q. and_then q (λ x. lines_into (line_into due) g x.got x.rest x.next)) (line_goes (count_of due) (head_line (letter_of due) (length vs)) (length vs) (lines_of w vs ++ rest) k c.0 c.1)
@@ -376,9 +376,9 @@ sections_write bytes k p e =
     let f = a.0 in
     let b = and_then_ok (section Lanes f.got f.rest f.next) _ p a.2 in
     let l = b.0 in
-    let fw = section-writes flows_add start bytes k f a.1 in
+    let fw = section_writes flows_add start bytes k f a.1 in
     let fs = fw.0 in
-    let lw = section-writes lanes_add f.got f.rest f.next l b.1 in
+    let lw = section_writes lanes_add f.got f.rest f.next l b.1 in
     let ls = lw.0 in
     let got : l.got ≡ from fs ls = lw.4 ∙ ap (λ g. add_lanes g ls) fw.4 in
     let pw = params_section fs ls l.rest l.next p (subst (λ g. section Params g l.rest l.next ≡ Ok p) got b.2) in
@@ -426,8 +426,8 @@ text_reads bytes s t =
     let fs = s.flows in
     let ls = s.lanes in
     let tail = section_of 76 decimal ls ++ section_of 80 param_line ps in
-    let f = section-reads flows_add start fs tail 1 (omega (arith, fit.few_flows)) (omega arith) (omega arith, λ e. omega arith) fit.flows_fit in
-    let l = section-reads lanes_add (add_flows start fs) ls (section_of 80 param_line ps) f.0 (omega (arith, fit.few_lanes)) (omega arith) (omega arith, λ e. omega arith) fit.lanes_fit in
+    let f = section_reads flows_add start fs tail 1 (omega (arith, fit.few_flows)) (omega arith) (omega arith, λ e. omega arith) fit.flows_fit in
+    let l = section_reads lanes_add (add_flows start fs) ls (section_of 80 param_line ps) f.0 (omega (arith, fit.few_lanes)) (omega arith) (omega arith, λ e. omega arith) fit.lanes_fit in
     let p = params_read fs ls ps s.slots s.threshold t.stands fit.some_slots fit.few_slots fit.near [] l.0 in
     let pe : section Params (from fs ls) (section_of 80 param_line ps) l.0 ≡ Ok p.0 = ap (λ b. section Params (from fs ls) b l.0) (sym (append-nil (section_of 80 param_line ps))) ∙ p.1 in
     cond-false (ltb 256 (length bytes)) _ (sheet_from bytes 1) (le-ltb 256 (length bytes) t.short)

@@ -21,8 +21,8 @@ module _ {S : Type 0} (form : S → List ℕ → Result S Refusal) (so : S) (n i
   unfolding onward
   lines_more h x e = one_line h ∙ ap (λ r. and_then r onward) e
 
-  pub lines-fault : i < n → (f : SheetFault) → line_as (form so) bytes k ≡ Err f → lines_into form so (n - i) bytes k ≡ Err f
-  lines-fault h f e = one_line h ∙ ap (λ r. and_then r onward) e
+  pub lines_fault : i < n → (f : SheetFault) → line_as (form so) bytes k ≡ Err f → lines_into form so (n - i) bytes k ≡ Err f
+  lines_fault h f e = one_line h ∙ ap (λ r. and_then r onward) e
 
   pub lines_end : n ≤ i → lines_into form so (n - i) bytes k ≡ Ok (record { got = so; rest = bytes; next = k })
   lines_end h = let z : n - i ≡ 0 = omega arith in ap (λ m. lines_into form so m bytes k) z

@@ -19,8 +19,8 @@ pub spelled : (n : ℕ) → n < 2 ^ 64 → spell 20 n [] ≡ decimal n
 spelled n h = decimal_from_prepends spell spells 20 n [] h (length-decimal-le 20 n (omega arith) (omega arith) h) ∙ append-nil (decimal n)
 
 module _ (ds : List ℕ) (at n : ℕ) (some : 1 ≤ at) (room : at ≤ length ds) where
-  pub spell-more : 10 ≤ n → spell (at - 1) (n / 10) (drop (at - 1) (set ds (at - 1) (48 + n % 10))) ≡ spell at n (drop at ds)
-  spell-more h =
+  pub spell_more : 10 ≤ n → spell (at - 1) (n / 10) (drop (at - 1) (set ds (at - 1) (48 + n % 10))) ≡ spell at n (drop at ds)
+  spell_more h =
       let one : at ≡ suc (at - 1) = omega arith in
       let next : at - 1 + 1 ≡ at = omega arith in
       ap (spell (at - 1) (n / 10)) (drop-set ds (at - 1) (48 + n % 10) (omega arith) ∙ ap (λ k. (48 + n % 10) ∷ drop k ds) next)

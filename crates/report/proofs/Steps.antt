@@ -13,13 +13,13 @@ no_steps [] answers h = refl
 no_steps (s ∷ steps) answers h = absurd (omega arith)
 
 module _ (out out' : List ℕ) (all steps : List Step) (step : Step) (first : all ≡ step ∷ steps) where
-  pub unread-told : (answers : List Answer) (f : SheetFault) → step ≡ Unread f → out' ≡ out ++ unread_line f → out' ++ report steps answers ≡ out ++ report all answers
-  unread-told answers f e put =
+  pub unread_told : (answers : List Answer) (f : SheetFault) → step ≡ Unread f → out' ≡ out ++ unread_line f → out' ++ report steps answers ≡ out ++ report all answers
+  unread_told answers f e put =
       let whole : all ≡ Unread f ∷ steps = first ∙ ap (λ (s : Step). s ∷ steps) e in
       ap (λ t. t ++ report steps answers) put ∙ append_assoc out (unread_line f) (report steps answers) ∙ sym (ap (λ (ss : List Step). out ++ report ss answers) whole)
 
-  pub answer-told : (every answers : List Answer) (a : Answer) → every ≡ a ∷ answers → step ≡ Made → out' ≡ out ++ answer_line a → out' ++ report steps answers ≡ out ++ report all every
-  answer-told every answers a next e put =
+  pub answer_told : (every answers : List Answer) (a : Answer) → every ≡ a ∷ answers → step ≡ Made → out' ≡ out ++ answer_line a → out' ++ report steps answers ≡ out ++ report all every
+  answer_told every answers a next e put =
       let whole : all ≡ Made ∷ steps = first ∙ ap (λ (s : Step). s ∷ steps) e in
       ap (λ t. t ++ report steps answers) put
       ∙ append_assoc out (answer_line a) (report steps answers)

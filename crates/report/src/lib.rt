@@ -1,4 +1,6 @@
 // What a flight prints: one line for each step of a script.
+#![tactic(auto)]
+
 pub mod answer;
 mod number;
 pub mod pieces;

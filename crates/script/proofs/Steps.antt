@@ -21,8 +21,8 @@ module _ (n : ℕ) (xs : List ℕ) (i : ℕ) (h : i < length xs) where
       let no : is_digit (get_or xs i 0) ≡ false = ⊎_elim (λ lo. and_left _ _ (lt-leb _ _ lo)) (λ hi. and_right _ _ (lt-leb _ _ hi)) o in
       at_drop_more (digits_from n) xs i 0 h ∙ cond-false (is_digit (get_or xs i 0) && ltb next (2 ^ 32)) (digits_from next (drop (i + 1) xs)) None (and_left _ _ no)
 
-  pub digits-large : 2 ^ 32 ≤ next → digits_from n (drop i xs) ≡ None
-  digits-large large = at_drop_more (digits_from n) xs i 0 h ∙ cond-false (is_digit (get_or xs i 0) && ltb next (2 ^ 32)) (digits_from next (drop (i + 1) xs)) None (and_right (is_digit (get_or xs i 0)) _ (le-ltb _ _ large))
+  pub digits_large : 2 ^ 32 ≤ next → digits_from n (drop i xs) ≡ None
+  digits_large large = at_drop_more (digits_from n) xs i 0 h ∙ cond-false (is_digit (get_or xs i 0) && ltb next (2 ^ 32)) (digits_from next (drop (i + 1) xs)) None (and_right (is_digit (get_or xs i 0)) _ (le-ltb _ _ large))
 
 pub digits_end : (n : ℕ) (xs : List ℕ) (i : ℕ) → length xs ≤ i → digits_from n (drop i xs) ≡ Some n
 digits_end n xs i h = at_drop_all (digits_from n) xs i h

@@ -56,11 +56,11 @@ module _ (n i : ℕ) (bytes : List ℕ) (k : ℕ) (h : i < n) where
   one : n - i ≡ suc (n - (i + 1))
   one = omega arith
 
-  pub skip-on : (l rest : List ℕ) → next_line bytes ≡ Some (l, rest) → skipped (n - i) bytes k ≡ skipped (n - (i + 1)) rest (k + 1)
-  skip-on l rest e = ap (λ m. skipped m bytes k) one ∙ goes (next_line bytes) k (λ p. skipped (n - (i + 1)) p.1 (k + 1)) (l, rest) e
+  pub skip_on : (l rest : List ℕ) → next_line bytes ≡ Some (l, rest) → skipped (n - i) bytes k ≡ skipped (n - (i + 1)) rest (k + 1)
+  skip_on l rest e = ap (λ m. skipped m bytes k) one ∙ goes (next_line bytes) k (λ p. skipped (n - (i + 1)) p.1 (k + 1)) (l, rest) e
 
-  pub skip-off : next_line bytes ≡ None → skipped (n - i) bytes k ≡ Err k
-  skip-off e = ap (λ m. skipped m bytes k) one ∙ stops (next_line bytes) k (λ p. skipped (n - (i + 1)) p.1 (k + 1)) e
+  pub skip_off : next_line bytes ≡ None → skipped (n - i) bytes k ≡ Err k
+  skip_off e = ap (λ m. skipped m bytes k) one ∙ stops (next_line bytes) k (λ p. skipped (n - (i + 1)) p.1 (k + 1)) e
 
 pub skip_end : (n i : ℕ) (bytes : List ℕ) (k : ℕ) → n ≤ i → skipped (n - i) bytes k ≡ Ok (bytes, k)
 skip_end n i bytes k h = let z : n - i ≡ 0 = omega arith in ap (λ m. skipped m bytes k) z

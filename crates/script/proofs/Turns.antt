@@ -14,29 +14,29 @@ use Rattle.script.specs.declared.script.Step.{Step}
 
 -- the first line that is not blank
 module _ (whole : List ℕ) (k₀ : ℕ) (bytes l rest : List ℕ) (k k' : ℕ) (on : (o : Result (CardKind × List Deed) ScriptFault) → Begins bytes k o → Begins whole k₀ o) (next : next_line bytes ≡ Some (l, rest)) (one : k' ≡ k + 1) (said : is_blank l ≡ false) where
-  card-by : (o : Option CardKind) → card_of l ≡ o → CardSaid whole k₀ (ok_or o (fault k Card)) rest k'
-  card-by None e = on (Err (fault k Card)) (Begins.wrong next said e)
-  card-by (Some c) e = λ o says. on (with_card c o) (names next said e (subst (λ j. Says rest j o) one says))
+  card_by : (o : Option CardKind) → card_of l ≡ o → CardSaid whole k₀ (ok_or o (fault k Card)) rest k'
+  card_by None e = on (Err (fault k Card)) (Begins.wrong next said e)
+  card_by (Some c) e = λ o says. on (with_card c o) (names next said e (subst (λ j. Says rest j o) one says))
 
-  pub card-said : (r : Result CardKind ScriptFault) → r ≡ ok_or (card_of l) (fault k Card) → CardSaid whole k₀ r rest k'
-  card-said r e = subst (λ (q : Result CardKind ScriptFault). CardSaid whole k₀ q rest k') (sym e) (card-by (card_of l) refl)
+  pub card_said : (r : Result CardKind ScriptFault) → r ≡ ok_or (card_of l) (fault k Card) → CardSaid whole k₀ r rest k'
+  card_said r e = subst (λ (q : Result CardKind ScriptFault). CardSaid whole k₀ q rest k') (sym e) (card_by (card_of l) refl)
 
 module _ (bytes : List ℕ) (k : ℕ) (bytes' : List ℕ) (k' : ℕ) (s s' : Script) where
-  pub turn-memory : (r : Result Bool NoScript) → IsErrAnd r (λ e. e ≡ Memory) → Turn bytes k bytes' k' s s' r
-  turn-memory (Ok x) h = absurd h
-  turn-memory (Err e) h = subst (λ e. Fails (λ f. Says bytes k (Err f)) e) (sym h) tt
+  pub turn_memory : (r : Result Bool NoScript) → IsErrAnd r (λ e. e ≡ Memory) → Turn bytes k bytes' k' s s' r
+  turn_memory (Ok x) h = absurd h
+  turn_memory (Err e) h = subst (λ e. Fails (λ f. Says bytes k (Err f)) e) (sym h) tt
 
-  pub turn-fault : (r : Result Bool NoScript) (f : ScriptFault) → Says bytes k (Err f) → IsErrAnd r (λ e. e ≡ Fault f) → Turn bytes k bytes' k' s s' r
-  turn-fault (Ok x) f p h = absurd h
-  turn-fault (Err e) f p h = subst (λ e. Fails (λ f. Says bytes k (Err f)) e) (sym h) p
+  pub turn_fault : (r : Result Bool NoScript) (f : ScriptFault) → Says bytes k (Err f) → IsErrAnd r (λ e. e ≡ Fault f) → Turn bytes k bytes' k' s s' r
+  turn_fault (Ok x) f p h = absurd h
+  turn_fault (Err e) f p h = subst (λ e. Fails (λ f. Says bytes k (Err f)) e) (sym h) p
 
-  pub turn-goes : (b : Bool) → Turn bytes k bytes' k' s s' (Ok b) → b ≡ true → Goes bytes k bytes' k' s s'
-  turn-goes true h e = h
-  turn-goes false h e = let z : ◌≡◌ {A = ℕ} 0 1 = cc in absurd (omega arith)
+  pub turn_goes : (b : Bool) → Turn bytes k bytes' k' s s' (Ok b) → b ≡ true → Goes bytes k bytes' k' s s'
+  turn_goes true h e = h
+  turn_goes false h e = let z : ◌≡◌ {A = ℕ} 0 1 = cc in absurd (omega arith)
 
-  pub turn-ends : (b : Bool) → Turn bytes k bytes' k' s s' (Ok b) → b ≡ false → (next_line bytes ≡ None) × (s' ≡ s)
-  turn-ends true h e = let z : ◌≡◌ {A = ℕ} 0 1 = cc in absurd (omega arith)
-  turn-ends false h e = h
+  pub turn_ends : (b : Bool) → Turn bytes k bytes' k' s s' (Ok b) → b ≡ false → (next_line bytes ≡ None) × (s' ≡ s)
+  turn_ends true h e = let z : ◌≡◌ {A = ℕ} 0 1 = cc in absurd (omega arith)
+  turn_ends false h e = h
 
 -- the whole text, when its end has come
 pub ended : (text bytes : List ℕ) (k : ℕ) (card card' : CardKind) (deeds : List Deed) → bytes ≡ text → k ≡ 1 → card' ≡ card → Begins bytes k (Ok (card, deeds ++ [])) → IsScript text (Ok (card', deeds))

@@ -1,4 +1,6 @@
 // The reader of flight scripts: a card, and calls to be made on a board around it.
+#![tactic(auto)]
+
 mod cursor;
 mod cut;
 pub mod fault;

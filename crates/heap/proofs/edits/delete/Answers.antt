@@ -12,4 +12,4 @@ pub returns-else-at-last : goal.returns-else-at-last
 returns-else-at-last g c =
     let laws = g.met.T.TotalOrder in
     let gone = c.index-held-at in
-    held.removes-last g.T.TotalOrder.upto laws.total laws.transitive c.args.items.now c.args.n _ _ c.args.at gone.result (omega arith) (omega arith) (omega arith) (omega arith) gone.is
+    held.removes_last g.T.TotalOrder.upto laws.total laws.transitive c.args.items.now c.args.n _ _ c.args.at gone.result (omega arith) (omega arith) (omega arith) (omega arith) gone.is

@@ -10,7 +10,7 @@ returns-then-not-at_or_before g c =
     let s = c.args.s.now in
     let left = c.args.i * 2 + 1 in
     let read = pair_read s (λ x y. m.upto x y ≡ false) left (left + 1) _ _ (omega arith) (omega arith) c.index-s-left.is c.index-s-left-then-left-s.is (sym c.if-not-at_or_before.ensures) in
-    record { child = ((omega arith, omega arith), omega arith); least = steps.right-least m.upto g.met.T.TotalOrder.total g.met.T.TotalOrder.transitive s c.args.i read }
+    record { child = ((omega arith, omega arith), omega arith); least = steps.right_least m.upto g.met.T.TotalOrder.total g.met.T.TotalOrder.transitive s c.args.i read }
 
 pub returns-else-left-s : goal.returns-else-left-s
 returns-else-left-s g c =
@@ -20,7 +20,7 @@ returns-else-left-s g c =
     record {
       child = ((omega arith, omega arith), omega arith);
       least = elim c.else-left-s.branch [
-        | else-left-s-via-then-left-s+else-not-at_or_before w ↦ steps.left-least m.upto g.met.T.TotalOrder.total g.met.T.TotalOrder.transitive s c.args.i (pair_read s (λ x y. m.upto x y ≡ true) left (left + 1) _ _ (omega arith) (omega arith) w.index-s-left.is w.index-s-left-then-left-s.is (sym w.if-not-at_or_before.ensures))
-        | else-left-s-via-else-left-s w ↦ steps.left-only m.upto g.met.T.TotalOrder.total g.met.T.TotalOrder.transitive s c.args.i (omega arith)
+        | else-left-s-via-then-left-s+else-not-at_or_before w ↦ steps.left_least m.upto g.met.T.TotalOrder.total g.met.T.TotalOrder.transitive s c.args.i (pair_read s (λ x y. m.upto x y ≡ true) left (left + 1) _ _ (omega arith) (omega arith) w.index-s-left.is w.index-s-left-then-left-s.is (sym w.if-not-at_or_before.ensures))
+        | else-left-s-via-else-left-s w ↦ steps.left_only m.upto g.met.T.TotalOrder.total g.met.T.TotalOrder.transitive s c.args.i (omega arith)
       ];
     }

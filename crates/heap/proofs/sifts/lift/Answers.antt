@@ -12,7 +12,7 @@ returns-then-at_or_before g c =
     let hole = c.args.hole in
     let parent = c.args.parent in
     let x = c.args.x.now in
-    (refl, λ h. steps.rise_rests upto laws.total laws.transitive (set s hole x) parent hole c.requires.0 (steps.parent-read upto laws.total laws.transitive s parent hole x c.index-s-parent.result true c.requires.0 c.requires.1 c.if-at_or_before.ensures) h)
+    (refl, λ h. steps.rise_rests upto laws.total laws.transitive (set s hole x) parent hole c.requires.0 (steps.parent_read upto laws.total laws.transitive s parent hole x c.index-s-parent.result true c.requires.0 c.requires.1 c.if-at_or_before.ensures) h)
 
 pub returns : goal.returns
 returns g c =
@@ -27,9 +27,9 @@ returns g c =
     let before = length-set s hole x in
     let between = length-set s hole y in
     let after = length-set (set s hole y) parent x in (
-      λ ws h. IsPermutation-trans _ _ _ h (steps.hole-shuffles s hole parent x y (omega arith) (omega arith) (omega arith) moved.is),
+      λ ws h. IsPermutation-trans _ _ _ h (steps.hole_shuffles s hole parent x y (omega arith) (omega arith) (omega arith) moved.is),
       λ h. steps.rise_steps upto laws.total laws.transitive (set s hole x) (set (set s hole y) parent x) parent hole c.requires.0 (omega arith) (omega arith)
-          (steps.hole-swaps s hole parent x y (omega arith) (omega arith) (omega arith) moved.is)
-          (steps.parent-read upto laws.total laws.transitive s parent hole x c.index-s-parent.result false c.requires.0 c.requires.1 c.if-at_or_before.ensures)
+          (steps.hole_swaps s hole parent x y (omega arith) (omega arith) (omega arith) moved.is)
+          (steps.parent_read upto laws.total laws.transitive s parent hole x c.index-s-parent.result false c.requires.0 c.requires.1 c.if-at_or_before.ensures)
           h,
     )

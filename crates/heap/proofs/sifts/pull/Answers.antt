@@ -14,12 +14,12 @@ returns g c =
     let y = c.index-s-child.result in
     let down = c.requires.child in
     record {
-      shuffled = λ x ws h. IsPermutation-trans _ _ _ h (steps.hole-shuffles s hole child x y (omega arith) (omega arith) (omega arith) c.index-s-child.is);
+      shuffled = λ x ws h. IsPermutation-trans _ _ _ h (steps.hole_shuffles s hole child x y (omega arith) (omega arith) (omega arith) c.index-s-child.is);
       free = λ x h.
           let before = length-set s hole x in
           let between = length-set s hole y in
           let after = length-set (set s hole y) child x in
           steps.sink_steps upto laws.total laws.transitive (set s hole x) (set (set s hole y) child x) hole child down.0 (omega arith) (omega arith)
-          (steps.hole-swaps s hole child x y (omega arith) (omega arith) (omega arith) c.index-s-child.is)
-          (steps.least-child-set upto laws.total laws.transitive s hole child x down.0 c.requires.least) h;
+          (steps.hole_swaps s hole child x y (omega arith) (omega arith) (omega arith) c.index-s-child.is)
+          (steps.least_child_set upto laws.total laws.transitive s hole child x down.0 c.requires.least) h;
     }

@@ -14,7 +14,7 @@ returns g c =
     elim c.loop-hole-test.branch [
       | else-loop-hole-test w ↦ record {
         shuffled = λ ws h. subst (λ v. IsPermutation ws (set v l.hole x)) (sym w.s-is) (l.invariant.2 ws h);
-        heaped = λ h. subst (λ v. Heaped upto (set v l.hole x)) (sym w.s-is) (steps.rise-ends upto laws.total laws.transitive (set l.s l.hole x) l.hole w.loop-hole-test.false (l.invariant.3 h));
+        heaped = λ h. subst (λ v. Heaped upto (set v l.hole x)) (sym w.s-is) (steps.rise_ends upto laws.total laws.transitive (set l.s l.hole x) l.hole w.loop-hole-test.false (l.invariant.3 h));
       }
       | then-loop-hole-test+then-not-lift w ↦
           let stays = w.if-not-lift.ensures in

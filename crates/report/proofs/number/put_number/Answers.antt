@@ -1,6 +1,6 @@
 use Rattle.std.proofs.Common.{◌≡◌, ℕ, ◌+◌, ◌-◌, ◌/◌, ◌%◌, ◌≤◌, ◌++◌, length, take, drop, set, vec_items, sym, refl, ap, ◌∙◌, arith, length-set}
 use Rattle.std.proofs.lemmas.List.{take_rest}
-use Rattle.report.proofs.Digits.{spelled, spell-more, spell_last, two_places, fewer}
+use Rattle.report.proofs.Digits.{spelled, spell_more, spell_last, two_places, fewer}
 use Rattle.report.proofs.number.put_number.Goals as goal
 
 pub loop-left-init : goal.loop-left-init
@@ -14,7 +14,7 @@ loop-left-preserved c =
       omega arith,
       omega arith,
       fewer _ _ i.1 i.3,
-      spell-more c.loop-left.digits c.loop-left.at c.loop-left.left i.1 (omega arith) c.loop-left-test.true ∙ i.4,
+      spell_more c.loop-left.digits c.loop-left.at c.loop-left.left i.1 (omega arith) c.loop-left-test.true ∙ i.4,
     )
 
 pub returns : goal.returns

@@ -1,6 +1,6 @@
 use Rattle.std.proofs.Common.{◌≡◌, ◌+◌, ◌*◌, length, drop, sym, ap, ◌∙◌, inl, inr, arith, false-eqb}
 use Rattle.script.specs.Words.{digits_from}
-use Rattle.script.proofs.Steps.{digits_on, digits_off, digits-large, digits_end, number_is}
+use Rattle.script.proofs.Steps.{digits_on, digits_off, digits_large, digits_end, number_is}
 use Rattle.script.proofs.number.number.Goals as goal
 use Rattle.script.proofs.number.number.Goals.{then-b-lt48-via-then-b-lt48, then-b-lt48-via-else-b-lt48+then-b-gt57}
 
@@ -12,7 +12,7 @@ returns-then-b-lt48 c =
 
 pub returns-then-n-ge4294967296 : goal.returns-then-n-ge4294967296
 returns-then-n-ge4294967296 c =
-    sym (number_is c.args.digits.now (false-eqb _ _ c.if-is-empty.ensures) ∙ sym c.loop-b.invariant.1 ∙ digits-large _ _ c.loop-b.b-index (omega arith) (omega arith))
+    sym (number_is c.args.digits.now (false-eqb _ _ c.if-is-empty.ensures) ∙ sym c.loop-b.invariant.1 ∙ digits_large _ _ c.loop-b.b-index (omega arith) (omega arith))
 
 pub loop-b-preserved : goal.loop-b-preserved
 loop-b-preserved c = (

@@ -4,7 +4,7 @@ use Rattle.script.specs.Scripts.{Begins, fault, nothing}
 use Rattle.script.specs.Views.{rest_of}
 use Rattle.script.specs.declared.fault.Expected.TheVariants.{Card}
 use Rattle.script.specs.declared.line.CardKind.{CardKind}
-use Rattle.script.proofs.Turns.{card-said}
+use Rattle.script.proofs.Turns.{card_said}
 use Rattle.script.proofs.cursor.Cursor.take_card.Goals as goal
 
 pub loop-line-init : goal.loop-line-init
@@ -15,7 +15,7 @@ returns-in-default c = c.loop-line.invariant _ (nothing c.in-default.ensures.val
 
 pub returns-then-not-is-blank : goal.returns-then-not-is-blank
 returns-then-not-is-blank c =
-    card-said (rest_of c.args.self.now) c.args.self.now.line (rest_of c.loop-line.self) c.in-Some.line.now (rest_of c.take-line.new.self) c.loop-line.self.line c.take-line.new.self.line
+    card_said (rest_of c.args.self.now) c.args.self.now.line (rest_of c.loop-line.self) c.in-Some.line.now (rest_of c.take-line.new.self) c.loop-line.self.line c.take-line.new.self.line
     c.loop-line.invariant c.in-Some.ensures.value.0 c.in-Some.ensures.value.1 (sym c.is-blank.ensures ∙ c.if-not-is-blank.true)
     c.ok-or.result (c.ok-or.ensures.value ∙ ap (λ (o : Option CardKind). ok_or o (fault c.loop-line.self.line Card)) c.card-of.ensures)
 

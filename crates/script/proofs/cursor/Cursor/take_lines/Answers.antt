@@ -1,7 +1,7 @@
 use Rattle.std.proofs.Common.{◌≡◌, ℕ, ◌+◌, ◌-◌, List, [], ◌++◌, length, take, sym, refl, ap, ◌∙◌, subst, append_assoc, arith, length-append}
 use Rattle.script.specs.Scripts.{skipped}
 use Rattle.script.specs.Views.{rest_of}
-use Rattle.script.proofs.Texts.{next_front, front_taken, skip-on, skip-off, skip_end}
+use Rattle.script.proofs.Texts.{next_front, front_taken, skip_on, skip_off, skip_end}
 use Rattle.script.proofs.cursor.Cursor.take_lines.Goals as goal
 
 pub loop-i-init : goal.loop-i-init
@@ -11,7 +11,7 @@ loop-i-init c =
 
 pub returns-in-default : goal.returns-in-default
 returns-in-default c = record {
-  value = (sym c.loop-i.invariant.0 ∙ skip-off c.args.count c.loop-i.-i (rest_of c.loop-i.self) c.loop-i.self.line c.loop-i-test.true c.in-default.ensures.value.0, refl);
+  value = (sym c.loop-i.invariant.0 ∙ skip_off c.args.count c.loop-i.-i (rest_of c.loop-i.self) c.loop-i.self.line c.loop-i-test.true c.in-default.ensures.value.0, refl);
   text = tt;
 }
 
@@ -21,7 +21,7 @@ loop-i-preserved c =
     let f = next_front (rest_of c.loop-i.self) _ _ v.0 in
     let so = c.loop-i.invariant.1 in (
       ap (λ k. skipped (c.args.count - (c.loop-i.-i + 1)) (rest_of c.take-line.new.self) k) v.1
-          ∙ sym (skip-on c.args.count c.loop-i.-i (rest_of c.loop-i.self) c.loop-i.self.line c.loop-i-test.true _ _ v.0)
+          ∙ sym (skip_on c.args.count c.loop-i.-i (rest_of c.loop-i.self) c.loop-i.self.line c.loop-i-test.true _ _ v.0)
           ∙ c.loop-i.invariant.0,
       (so.0 ++ f.0, append_assoc so.0 f.0 (rest_of c.take-line.new.self) ∙ ap (λ r. so.0 ++ r) f.1 ∙ so.1),
     )

@@ -7,7 +7,7 @@ use Rattle.script.specs.declared.fault.Expected.TheVariants.{SheetLine}
 use Rattle.script.specs.declared.fault.ScriptFault.{ScriptFault}
 use Rattle.script.specs.declared.line.Line.{Line}
 use Rattle.script.proofs.Deeds.{adds_none, after_none}
-use Rattle.script.proofs.Turns.{turn-memory, turn-fault}
+use Rattle.script.proofs.Turns.{turn_memory, turn_fault}
 use Rattle.script.proofs.script.Script.add_next.Goals as goal
 
 -- a fault is its line with what was expected there
@@ -25,16 +25,16 @@ returns-in-err-text c =
     let v = c.in-Some.ensures.value in
     let f = c.in-err-text.field-0.0 in
     let lost = c.in-err-text.ensures.value in
-    turn-fault _ _ _ _ _ _ c.from-residual.result f
+    turn_fault _ _ _ _ _ _ c.from-residual.result f
     (subst (λ (g : ScriptFault). Says (rest_of c.args.cursor.now) c.args.cursor.now.line (Err g)) (sym (as_fault f lost.1))
     (Says.lacks v.0 (sym c.in-Ok.ensures ∙ ap (λ (x : Line). Ok x) c.in-Sheet.is) (subst (λ k. skipped c.in-Sheet.count (rest_of c.take-line.new.self) k ≡ Err f.line) v.1 lost.0)))
     c.from-residual.ensures.1
 
 pub returns-in-err-add-sheet : goal.returns-in-err-add-sheet
-returns-in-err-add-sheet c = turn-memory _ _ _ _ _ _ c.from-residual-in-err-add-sheet.result c.from-residual-in-err-add-sheet.ensures.1
+returns-in-err-add-sheet c = turn_memory _ _ _ _ _ _ c.from-residual-in-err-add-sheet.result c.from-residual-in-err-add-sheet.ensures.1
 
 pub returns-in-err-add-call : goal.returns-in-err-add-call
-returns-in-err-add-call c = turn-memory _ _ _ _ _ _ c.from-residual-in-err-add-call.result c.from-residual-in-err-add-call.ensures.1
+returns-in-err-add-call c = turn_memory _ _ _ _ _ _ c.from-residual-in-err-add-call.result c.from-residual-in-err-add-call.ensures.1
 
 pub returns-in-Blank : goal.returns-in-Blank
 returns-in-Blank c =

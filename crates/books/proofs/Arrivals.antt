@@ -60,15 +60,15 @@ module _ {s : State} {f l n : ℕ} {r : Request} {e time' : ℕ} {ends' : List �
   after : State
   after = record { sheet = s.sheet; time = time'; ends = ends'; lanes = lanes'; in_card = s.in_card; arrivals = s.arrivals + 1 }
 
-  lanes-are : lanes' ≡ set s.lanes l (insert by_start (tagged s f n) (lane_at s l))
-  lanes-are = h.lanes ∙ ap (λ q. set s.lanes l (insert by_start q (lane_at s l))) h.request
+  lanes_are : lanes' ≡ set s.lanes l (insert by_start (tagged s f n) (lane_at s l))
+  lanes_are = h.lanes ∙ ap (λ q. set s.lanes l (insert by_start q (lane_at s l))) h.request
 
   end_is : e ≡ (tagged s f n).start + (tagged s f n).charge
   end_is = h.end ∙ ap (λ (q : Request). q.start + q.charge) h.request
 
   after_is : after ≡ entered s l (tagged s f n)
   unfolding after
-  after_is = λ i. record { sheet = s.sheet; time = (h.time ∙ ap (time_of s) lanes-are) i; ends = (h.ends ∙ ap (set s.ends f) end_is) i; lanes = lanes-are i; in_card = s.in_card; arrivals = s.arrivals + 1 }
+  after_is = λ i. record { sheet = s.sheet; time = (h.time ∙ ap (time_of s) lanes_are) i; ends = (h.ends ∙ ap (set s.ends f) end_is) i; lanes = lanes_are i; in_card = s.in_card; arrivals = s.arrivals + 1 }
 
   pub enters : Meets {A = Result Arrival Refusal} (Ok (s.arrivals, (r.start, e))) (record { sheet = s.sheet; time = time'; ends = ends'; lanes = lanes'; in_card = s.in_card; arrivals = s.arrivals + 1 }) (arrive_rule s f l n)
   unfolding after
@@ -83,8 +83,8 @@ module _ {s : State} {f l n : ℕ} {r : Request} {e time' : ℕ} {ends' : List �
   gains : (g : Request → ℕ) → Shaped s → l < 8 → waiting g (entered s l (tagged s f n)).lanes ≡ g (tagged s f n) + waiting g s.lanes
   gains g p b = waiting_more g s.lanes l (tagged s f n) (omega (arith, p.0, b))
 
-  entered-sound : Sound s → f < 16 → l < 8 → (tagged s f n).charge ≤ 1720320 → Sound (entered s l (tagged s f n))
-  entered-sound k f16 l8 small =
+  entered_sound : Sound s → f < 16 → l < 8 → (tagged s f n).charge ≤ 1720320 → Sound (entered s l (tagged s f n))
+  entered_sound k f16 l8 small =
       let shaped = k.0 in
       let few = k.1.0 in
       let timed = k.1.1.0 in
@@ -132,6 +132,6 @@ module _ {s : State} {f l n : ℕ} {r : Request} {e time' : ℕ} {ends' : List �
         ),
       )
 
-  pub enters-sound : Sound s → f < 16 → l < 8 → (tagged s f n).charge ≤ 1720320 → Sound (record { sheet = s.sheet; time = time'; ends = ends'; lanes = lanes'; in_card = s.in_card; arrivals = s.arrivals + 1 })
+  pub enters_sound : Sound s → f < 16 → l < 8 → (tagged s f n).charge ≤ 1720320 → Sound (record { sheet = s.sheet; time = time'; ends = ends'; lanes = lanes'; in_card = s.in_card; arrivals = s.arrivals + 1 })
   unfolding after
-  enters-sound k f16 l8 small = subst Sound (sym after_is) (entered-sound k f16 l8 small)
+  enters_sound k f16 l8 small = subst Sound (sym after_is) (entered_sound k f16 l8 small)

@@ -21,9 +21,9 @@ use Rattle.books.specs.Views.{state_of}
 use Rattle.books.specs.declared.books.Books.{Books}
 use Rattle.books.specs.declared.flows.FlowRecord.{FlowRecord}
 use Rattle.books.specs.declared.refusal.Refusal.{Refusal}
-use Rattle.books.proofs.Arrivals.{Entry, enters, enters-sound}
+use Rattle.books.proofs.Arrivals.{Entry, enters, enters_sound}
 use Rattle.books.proofs.Counts.{own, flow_le, recorded, led_there, count_stays, count_up, count_down}
-use Rattle.books.proofs.Moves.{Move, moves, moves-sound}
+use Rattle.books.proofs.Moves.{Move, moves, moves_sound}
 use Rattle.books.proofs.Opened.{Whole, kept, sound, sixteen, end_at, ends_set, ends_stay, priced}
 use Rattle.books.proofs.Removes.{removed_sound, removed_without, with_in_card}
 use Rattle.books.proofs.Sums.{waiting_more, waiting_less}
@@ -41,44 +41,44 @@ module _ (b : Books) (t : ℕ) (r : Request) (c' : InCard) (out : Removes t (in_
   less g = ap (sum_by g) out.1 ∙ sum_by-insert by_ticket g r (in_card_of c')
 
   -- its flow has a record, which counts it
-  pub out-counted : (r.flow < 16) × (1 ≤ (record_at b r.flow).in_card)
-  out-counted =
+  pub out_counted : (r.flow < 16) × (1 ≤ (record_at b r.flow).in_card)
+  out_counted =
       let f = r.flow in
       let k = recorded (λ (x : FlowRecord). x.in_card) b.flows f (sum_by (flow_is f) (in_card_of b.in_card)) no_record (b.counts_in_card f) (omega (arith, less (flow_is f), own r f refl)) in
       (omega (arith, k.0, sixteen b), omega (arith, k.1, less (flow_is f), own r f refl))
 
   module _ (x : FlowRecord) (is : x ≡ record { end = (record_at b r.flow).end; waiting = (record_at b r.flow).waiting; in_card = (record_at b r.flow).in_card - 1 }) where
     there : r.flow < length b.flows
-    there = omega (arith, out-counted.0, sixteen b)
+    there = omega (arith, out_counted.0, sixteen b)
 
-    ends-are : ends_of (set b.flows r.flow x) ≡ ends_of b.flows
-    ends-are = ends_stay b.flows r.flow x no_record there (ap (λ (y : FlowRecord). y.end) is)
+    ends_are : ends_of (set b.flows r.flow x) ≡ ends_of b.flows
+    ends_are = ends_stay b.flows r.flow x no_record there (ap (λ (y : FlowRecord). y.end) is)
 
-    pub out-whole : Whole b.sheet b.time (set b.flows r.flow x) b.lanes c' b.arrivals
-    out-whole =
-        let one = out-counted.1 in
+    pub out_whole : Whole b.sheet b.time (set b.flows r.flow x) b.lanes c' b.arrivals
+    out_whole =
+        let one = out_counted.1 in
         let in_card_lem = ap (λ (y : FlowRecord). y.in_card) is in
         kept (set b.flows r.flow x) (state_from b.sheet b.time (set b.flows r.flow x) b.lanes c' b.arrivals)
         (count_stays (λ (y : FlowRecord). y.waiting) b.flows r.flow x no_record (λ j. waiting (flow_is j) (lanes_of b.lanes)) there (ap (λ (y : FlowRecord). y.waiting) is) b.counts_waiting)
         (count_down (λ (y : FlowRecord). y.in_card) b.flows x no_record (λ j. sum_by (flow_is j) (in_card_of b.in_card)) (λ j. sum_by (flow_is j) (in_card_of c')) r r.flow refl there (omega (arith, in_card_lem, one)) (λ j. less (flow_is j)) b.counts_in_card)
-        (subst (λ es. Sound (record { sheet = (state_of b).sheet; time = b.time; ends = es; lanes = (state_of b).lanes; in_card = in_card_of c'; arrivals = b.arrivals })) (sym ends-are) (removed_sound (state_of b) t (in_card_of c') (Some r) out (sound b)))
+        (subst (λ es. Sound (record { sheet = (state_of b).sheet; time = b.time; ends = es; lanes = (state_of b).lanes; in_card = in_card_of c'; arrivals = b.arrivals })) (sym ends_are) (removed_sound (state_of b) t (in_card_of c') (Some r) out (sound b)))
 
-    pub out-state : state_from b.sheet b.time (set b.flows r.flow x) b.lanes c' b.arrivals ≡ finished (state_of b) t
-    out-state =
-        ap (λ es. record { sheet = (state_of b).sheet; time = b.time; ends = es; lanes = (state_of b).lanes; in_card = in_card_of c'; arrivals = b.arrivals }) ends-are
+    pub out_state : state_from b.sheet b.time (set b.flows r.flow x) b.lanes c' b.arrivals ≡ finished (state_of b) t
+    out_state =
+        ap (λ es. record { sheet = (state_of b).sheet; time = b.time; ends = es; lanes = (state_of b).lanes; in_card = in_card_of c'; arrivals = b.arrivals }) ends_are
         ∙ ap (with_in_card (state_of b)) (removed_without t (in_card_of b.in_card) (in_card_of c') (Some r) (omega (arith, b.once t)) out)
 
 -- ---- a request goes into the card
 
 module _ (b : Books) (l : ℕ) (r : Request) (rest : List Request) (lane : lane_at (state_of b) l ≡ r ∷ rest) where
-  lane-there : l < 8
-  lane-there = omega (arith, led_there (state_of b).lanes l r rest lane, b.shaped.0)
+  lane_there : l < 8
+  lane_there = omega (arith, led_there (state_of b).lanes l r rest lane, b.shaped.0)
 
   gone : (g : Request → ℕ) → waiting g (state_of b).lanes ≡ g r + waiting g (set (state_of b).lanes l rest)
   gone g = waiting_less g (state_of b).lanes l r rest (led_there (state_of b).lanes l r rest lane) lane
 
-  pub lead-counted : (r.flow < 16) × (1 ≤ (record_at b r.flow).waiting) × ((record_at b r.flow).in_card ≤ 32)
-  lead-counted =
+  pub lead_counted : (r.flow < 16) × (1 ≤ (record_at b r.flow).waiting) × ((record_at b r.flow).in_card ≤ 32)
+  lead_counted =
       let f = r.flow in
       let k = recorded (λ (x : FlowRecord). x.waiting) b.flows f (waiting (flow_is f) (state_of b).lanes) no_record (b.counts_waiting f) (omega (arith, gone (flow_is f), own r f refl)) in
       let there : f < length b.flows = k.0 in
@@ -90,35 +90,35 @@ module _ (b : Books) (l : ℕ) (r : Request) (rest : List Request) (lane : lane_
       (left : lanes_of lanes' ≡ set (state_of b).lanes l rest) (time : time' ≡ time_of (state_of b) (lanes_of lanes'))
       (room : length (state_of b).in_card < (state_of b).sheet.slots) (answer : pushed ≡ ltb (length (state_of b).in_card) 32)
       (in_card_lem : in_card_of c' ≡ cond pushed (insert by_ticket r (state_of b).in_card) (state_of b).in_card) where
-    flow-there : r.flow < length b.flows
-    flow-there = omega (arith, lead-counted.0, sixteen b)
+    flow_there : r.flow < length b.flows
+    flow_there = omega (arith, lead_counted.0, sixteen b)
 
-    entered-card : in_card_of c' ≡ insert by_ticket r (state_of b).in_card
-    entered-card = in_card_lem ∙ cond-true pushed _ _ (answer ∙ lt-ltb (length (state_of b).in_card) 32 (omega (arith, room, b.sheet.few_slots)))
+    entered_card : in_card_of c' ≡ insert by_ticket r (state_of b).in_card
+    entered_card = in_card_lem ∙ cond-true pushed _ _ (answer ∙ lt-ltb (length (state_of b).in_card) 32 (omega (arith, room, b.sheet.few_slots)))
 
     move : Move (state_of b) l r rest time' (ends_of (set b.flows r.flow x)) (lanes_of lanes') (in_card_of c')
     move = record {
       lead = lane;
       lanes = left;
       time = time;
-      ends = ends_stay b.flows r.flow x no_record flow-there (ap (λ (y : FlowRecord). y.end) is);
-      in_card = entered-card;
+      ends = ends_stay b.flows r.flow x no_record flow_there (ap (λ (y : FlowRecord). y.end) is);
+      in_card = entered_card;
     }
 
-    pub moved-whole : Whole b.sheet time' (set b.flows r.flow x) lanes' c' b.arrivals
-    moved-whole =
+    pub moved_whole : Whole b.sheet time' (set b.flows r.flow x) lanes' c' b.arrivals
+    moved_whole =
         let waits = ap (λ (y : FlowRecord). y.waiting) is in
         let sits = ap (λ (y : FlowRecord). y.in_card) is in
-        let some = lead-counted.1 in
+        let some = lead_counted.1 in
         kept (set b.flows r.flow x) (state_from b.sheet time' (set b.flows r.flow x) lanes' c' b.arrivals)
-        (count_down (λ (y : FlowRecord). y.waiting) b.flows x no_record (λ j. waiting (flow_is j) (state_of b).lanes) (λ j. waiting (flow_is j) (lanes_of lanes')) r r.flow refl flow-there (omega (arith, waits, some))
+        (count_down (λ (y : FlowRecord). y.waiting) b.flows x no_record (λ j. waiting (flow_is j) (state_of b).lanes) (λ j. waiting (flow_is j) (lanes_of lanes')) r r.flow refl flow_there (omega (arith, waits, some))
         (λ j. omega (arith, gone (flow_is j), ap (waiting (flow_is j)) left)) b.counts_waiting)
-        (count_up (λ (y : FlowRecord). y.in_card) b.flows x no_record (λ j. sum_by (flow_is j) (state_of b).in_card) (λ j. sum_by (flow_is j) (in_card_of c')) r r.flow refl flow-there sits
-        (λ j. ap (sum_by (flow_is j)) entered-card ∙ sum_by-insert by_ticket (flow_is j) r (state_of b).in_card) b.counts_in_card)
-        (moves-sound move (sound b) lane-there room)
+        (count_up (λ (y : FlowRecord). y.in_card) b.flows x no_record (λ j. sum_by (flow_is j) (state_of b).in_card) (λ j. sum_by (flow_is j) (in_card_of c')) r r.flow refl flow_there sits
+        (λ j. ap (sum_by (flow_is j)) entered_card ∙ sum_by-insert by_ticket (flow_is j) r (state_of b).in_card) b.counts_in_card)
+        (moves_sound move (sound b) lane_there room)
 
-    pub moved-state : state_from b.sheet time' (set b.flows r.flow x) lanes' c' b.arrivals ≡ move_rule (state_of b) l
-    moved-state = moves move ∙ sym (cond-true (ltb (length (state_of b).in_card) (state_of b).sheet.slots) _ _ (lt-ltb _ _ room))
+    pub moved_state : state_from b.sheet time' (set b.flows r.flow x) lanes' c' b.arrivals ≡ move_rule (state_of b) l
+    moved_state = moves move ∙ sym (cond-true (ltb (length (state_of b).in_card) (state_of b).sheet.slots) _ _ (lt-ltb _ _ room))
 
 -- ---- a request arrives
 
@@ -137,8 +137,8 @@ pub record Arrival (b : Books) (f l n : ℕ) (share : Flow) (k charge start e ti
   pub time : time' ≡ time_of (state_of b) (lanes_of lanes')
 
 module _ {b : Books} {f l n : ℕ} {share : Flow} {k charge start e time' : ℕ} {x : FlowRecord} {lanes' : Lanes} {pushed : Bool} (a : Arrival b f l n share k charge start e time' x lanes' pushed) where
-  flow-in : f < length b.flows
-  flow-in = omega (arith, a.flow.few, sixteen b)
+  flow_in : f < length b.flows
+  flow_in = omega (arith, a.flow.few, sixteen b)
 
   entry : Entry (state_of b) f l n (record { start = start; ticket = b.arrivals; flow = f; sectors = n; charge = charge }) e time' (ends_of (set b.flows f x)) (lanes_of lanes')
   entry =
@@ -155,16 +155,16 @@ module _ {b : Books} {f l n : ℕ} {share : Flow} {k charge start e time' : ℕ}
         lanes = a.lanes ∙ cond-true pushed _ _ (a.answer ∙ and_from (ltb l 8) _ (lt-ltb l 8 a.lane.few) (lt-ltb (length (lane_at (state_of b) l)) 32 (omega (arith, a.room, a.lane.most))));
       }
 
-  pub entered-state : Meets {A = Result Ticket Refusal} (Ok (b.arrivals, (start, e))) (state_from b.sheet time' (set b.flows f x) lanes' b.in_card (b.arrivals + 1)) (arrive_rule (state_of b) f l n)
-  entered-state = enters entry
+  pub entered_state : Meets {A = Result Ticket Refusal} (Ok (b.arrivals, (start, e))) (state_from b.sheet time' (set b.flows f x) lanes' b.in_card (b.arrivals + 1)) (arrive_rule (state_of b) f l n)
+  entered_state = enters entry
 
-  pub entered-whole : Whole b.sheet time' (set b.flows f x) lanes' b.in_card (b.arrivals + 1)
-  entered-whole =
+  pub entered_whole : Whole b.sheet time' (set b.flows f x) lanes' b.in_card (b.arrivals + 1)
+  entered_whole =
       let s = state_of b in
       let share-is = a.flow.is in
       let small : charge_of n (flow_at s f).weight ≤ 1720320 = laws.largest n (flow_at s f).weight (omega (arith, entry.right.most, ap (λ (y : Flow). y.longest) share-is, a.flow.most)) (omega (arith, a.flow.some, ap (λ (y : Flow). y.weight) share-is)) in
       kept (set b.flows f x) (state_from b.sheet time' (set b.flows f x) lanes' b.in_card (b.arrivals + 1))
-      (count_up (λ (y : FlowRecord). y.waiting) b.flows x no_record (λ j. waiting (flow_is j) s.lanes) (λ j. waiting (flow_is j) (lanes_of lanes')) (record { start = start; ticket = b.arrivals; flow = f; sectors = n; charge = charge }) f refl flow-in (ap (λ (y : FlowRecord). y.waiting) a.tagged)
+      (count_up (λ (y : FlowRecord). y.waiting) b.flows x no_record (λ j. waiting (flow_is j) s.lanes) (λ j. waiting (flow_is j) (lanes_of lanes')) (record { start = start; ticket = b.arrivals; flow = f; sectors = n; charge = charge }) f refl flow_in (ap (λ (y : FlowRecord). y.waiting) a.tagged)
       (λ j. ap (waiting (flow_is j)) entry.lanes ∙ waiting_more (flow_is j) s.lanes l _ (omega (arith, a.lane.few, b.shaped.0))) b.counts_waiting)
-      (count_stays (λ (y : FlowRecord). y.in_card) b.flows f x no_record (λ j. sum_by (flow_is j) s.in_card) flow-in (ap (λ (y : FlowRecord). y.in_card) a.tagged) b.counts_in_card)
-      (enters-sound entry (sound b) a.flow.few a.lane.few small)
+      (count_stays (λ (y : FlowRecord). y.in_card) b.flows f x no_record (λ j. sum_by (flow_is j) s.in_card) flow_in (ap (λ (y : FlowRecord). y.in_card) a.tagged) b.counts_in_card)
+      (enters_sound entry (sound b) a.flow.few a.lane.few small)

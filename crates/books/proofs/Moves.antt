@@ -33,8 +33,8 @@ module _ {s : State} {l : ℕ} {r : Request} {rest : List Request} {time' : ℕ}
       λ i. record { sheet = s.sheet; time = (h.time ∙ ap (time_of s) h.lanes) i; ends = h.ends i; lanes = h.lanes i; in_card = h.in_card i; arrivals = s.arrivals } in
       after ∙ ap (moved_from s l) (sym h.lead)
 
-  moved-sound : Sound s → l < 8 → length s.in_card < s.sheet.slots → Sound (moved_from s l (r ∷ rest))
-  moved-sound k l8 room =
+  moved_sound : Sound s → l < 8 → length s.in_card < s.sheet.slots → Sound (moved_from s l (r ∷ rest))
+  moved_sound k l8 room =
       let shaped = k.0 in
       let timed = k.1.1.0 in
       let started = k.1.1.1.1.0 in
@@ -73,11 +73,11 @@ module _ {s : State} {l : ℕ} {r : Request} {rest : List Request} {time' : ℕ}
         ),
       )
 
-  pub moves-sound : Sound s → l < 8 → length s.in_card < s.sheet.slots → Sound (record { sheet = s.sheet; time = time'; ends = ends'; lanes = lanes'; in_card = in_card'; arrivals = s.arrivals })
-  moves-sound k l8 room =
+  pub moves_sound : Sound s → l < 8 → length s.in_card < s.sheet.slots → Sound (record { sheet = s.sheet; time = time'; ends = ends'; lanes = lanes'; in_card = in_card'; arrivals = s.arrivals })
+  moves_sound k l8 room =
       let after : ◌≡◌ {A = State} (record { sheet = s.sheet; time = time'; ends = ends'; lanes = lanes'; in_card = in_card'; arrivals = s.arrivals }) (moved_from s l (r ∷ rest)) =
       λ i. record { sheet = s.sheet; time = (h.time ∙ ap (time_of s) h.lanes) i; ends = h.ends i; lanes = h.lanes i; in_card = h.in_card i; arrivals = s.arrivals } in
-      subst Sound (sym after) (moved-sound k l8 room)
+      subst Sound (sym after) (moved_sound k l8 room)
 
 -- the lanes say what they said
 pub stays_whole : (b : Books) (lanes' : Lanes) → lanes_of lanes' ≡ lanes_of b.lanes → Whole b.sheet b.time b.flows lanes' b.in_card b.arrivals

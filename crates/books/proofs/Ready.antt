@@ -43,17 +43,17 @@ pub each : (P : ℕ → Type 0) → ((k : ℕ) → k < 8 → P k) → AllByRecur
 each P h = (h 0 (omega arith), (h 1 (omega arith), (h 2 (omega arith), (h 3 (omega arith), (h 4 (omega arith), (h 5 (omega arith), (h 6 (omega arith), (h 7 (omega arith), tt))))))))
 
 module _ (by : ℕ → List ℕ) (tell : (x y : ℕ) → by x ≡ by y → x ≡ y) where
-  head-is : (k : ℕ) (w : List ℕ) → Ordered by w → AllByRecursion (First by k) w → ((g : ℕ → ℕ) → g k ≤ sum_by g w) → head_of w ≡ Some k
-  head-is k [] o a h = absurd (omega (arith, h (λ _. 1)))
-  head-is k (y ∷ ys) o a h =
+  head_is : (k : ℕ) (w : List ℕ) → Ordered by w → AllByRecursion (First by k) w → ((g : ℕ → ℕ) → g k ≤ sum_by g w) → head_of w ≡ Some k
+  head_is k [] o a h = absurd (omega (arith, h (λ _. 1)))
+  head_is k (y ∷ ys) o a h =
       let g : ℕ → ℕ = λ z. cond (upto (by y) (by z)) 0 1 in
       let self : upto (by y) (by y) ≡ true = ⊎_elim (λ t. t) (λ n. upto_either (by y) (by y) n) (cases_Bool (upto (by y) (by y))) in
       let back : upto (by y) (by k) ≡ true = ⊎_elim (λ t. t) (λ f. absurd (omega (arith, h g, none_before by y (y ∷ ys) (self, o.0), cond-false {A = ℕ} (upto (by y) (by k)) 0 1 f))) (cases_Bool (upto (by y) (by k))) in
       ap Some (tell y k (upto_alike (by y) (by k) back a.0))
 
-  first-kept : (p : ℕ → Bool) (k : ℕ) → k < 8 → p k ≡ true → ((j : ℕ) → j < 8 → p j ≡ true → First by k j) → head_of (sorted by (filter p eight)) ≡ Some k
-  first-kept p k l t h =
-      head-is k (sorted by (filter p eight)) (ordered-sorted by (filter p eight)) (all-sorted by (First by k) (filter p eight) (all_kept p (First by k) eight (each (λ j. p j ≡ true → First by k j) h)))
+  first_kept : (p : ℕ → Bool) (k : ℕ) → k < 8 → p k ≡ true → ((j : ℕ) → j < 8 → p j ≡ true → First by k j) → head_of (sorted by (filter p eight)) ≡ Some k
+  first_kept p k l t h =
+      head_is k (sorted by (filter p eight)) (ordered-sorted by (filter p eight)) (all-sorted by (First by k) (filter p eight) (all_kept p (First by k) eight (each (λ j. p j ≡ true → First by k j) h)))
       (λ g. omega (arith, sum_by-sorted by g (filter p eight), kept_le g p eight k 0 l (ap p (itself k l) ∙ t), ap g (itself k l)))
 
 -- what the bits say
@@ -72,7 +72,7 @@ near_upto d e k j le first =
 
 pub nearest_first : (s : State) (l bits k : ℕ) → Bits s bits → Nearest (get_or table l []) bits k → head_of (ready_lanes s l) ≡ Some k
 nearest_first s l bits k b n =
-    first-kept (λ j. distance l j ∷ j ∷ []) (λ x y e. ap (λ w. get_or w 1 0) e) (ready s) k n.within
+    first_kept (λ j. distance l j ∷ j ∷ []) (λ x y e. ap (λ w. get_or w 1 0) e) (ready s) k n.within
     (sym (b k n.within) ∙ eq-eqb (bits / 2 ^ k % 2) 1 n.ready_k)
     (λ j m r. let i : In bits j = eqb-true (bits / 2 ^ j % 2) 1 (b j m ∙ r) in near_upto (distance l k) (distance l j) k j (n.none_nearer j m i) (λ c. n.first j c i))
 
@@ -136,18 +136,18 @@ least_lane v ((r ∷ rs) ∷ ls) h = ⊎_elim
     (λ many. let p = least_lane r.start ls many in ⊎_elim
     (λ le. (0, omega arith, omega (arith, le)))
     (λ gt. (suc p.0, omega (arith, p.1), subst (λ t. By t (get_or ls p.0 [])) (omega (arith, gt)) p.2))
-    (cases-le r.start (least r.start (starts ls))))
-    (cases-lt-one (length (starts ls)))
+    (cases_le r.start (least r.start (starts ls))))
+    (cases_lt_one (length (starts ls)))
   where
     one : (ns : List ℕ) → length ns ≡ 0 → r.start ≤ min r.start (least r.start ns)
     one [] e = omega arith
     one (n ∷ ns) e = absurd (omega (arith, e))
 
-    cases-le : (a b : ℕ) → (a ≤ b) ⊎ (b < a)
-    cases-le a b = ⊎_elim (λ l. inr l) (λ l. inl l) (cases_lt b a)
+    cases_le : (a b : ℕ) → (a ≤ b) ⊎ (b < a)
+    cases_le a b = ⊎_elim (λ l. inr l) (λ l. inl l) (cases_lt b a)
 
-    cases-lt-one : (n : ℕ) → (n ≡ 0) ⊎ (0 < n)
-    cases-lt-one n = ⊎_elim (λ l. inl (omega (arith, l))) (λ l. inr (omega (arith, l))) (cases_lt n 1)
+    cases_lt_one : (n : ℕ) → (n ≡ 0) ⊎ (0 < n)
+    cases_lt_one n = ⊎_elim (λ l. inl (omega (arith, l))) (λ l. inr (omega (arith, l))) (cases_lt n 1)
 
 by_ready : (s : State) (w : List Request) → By s.time w → ready_with s w ≡ true
 unfolding By

@@ -6,7 +6,7 @@ use Rattle.books.specs.Views.{state_of}
 use Rattle.books.specs.declared.books.Books.{Books}
 use Rattle.books.specs.declared.flows.FlowRecord.{FlowRecord}
 use Rattle.books.proofs.Arrivals.{full, spent}
-use Rattle.books.proofs.Changes.{no_record, record_at, entered-state, entered-whole}
+use Rattle.books.proofs.Changes.{no_record, record_at, entered_state, entered_whole}
 use Rattle.books.proofs.Opened.{Whole, whole, sixteen, few_waiting, end_at, restored, priced}
 use Rattle.books.proofs.books.Books.arrive.Goals as goal
 
@@ -48,7 +48,7 @@ returns-then-self-ge-MOST c =
 
 pub invariant_of-self-2 : goal.invariant_of-self-2
 invariant_of-self-2 c =
-    entered-whole {b = c.args.self.now} {f = c.args.flow} {l = c.args.lane} {n = c.args.length} {lanes' = c.push.new.self} (record {
+    entered_whole {b = c.args.self.now} {f = c.args.flow} {l = c.args.lane} {n = c.args.length} {lanes' = c.push.new.self} (record {
       flow = c.in-Some.ensures;
       lane = c.in-Some-lane.ensures;
       price = c.in-Some-charge.ensures.value;
@@ -64,7 +64,7 @@ invariant_of-self-2 c =
 
 pub returns : goal.returns
 returns c =
-    entered-state {b = c.args.self.now} {f = c.args.flow} {l = c.args.lane} {n = c.args.length} {lanes' = c.push.new.self} (record {
+    entered_state {b = c.args.self.now} {f = c.args.flow} {l = c.args.lane} {n = c.args.length} {lanes' = c.push.new.self} (record {
       flow = c.in-Some.ensures;
       lane = c.in-Some-lane.ensures;
       price = c.in-Some-charge.ensures.value;

@@ -1,6 +1,6 @@
 use Rattle.std.proofs.Common.{Some, None, ap, arith}
 use Rattle.books.specs.Views.{state_of}
-use Rattle.books.proofs.Changes.{out-counted, out-whole, out-state}
+use Rattle.books.proofs.Changes.{out_counted, out_whole, out_state}
 use Rattle.books.proofs.Removes.{kept_whole, removed_found, removed_without, removed_fewer, with_in_card}
 use Rattle.books.proofs.books.Books.finish.Goals as goal
 
@@ -20,13 +20,13 @@ returns-in_default c =
     }
 
 pub bounds-self-request : goal.bounds-self-request
-bounds-self-request c = (out-counted c.args.self.now c.args.ticket c.in-Some.request c.remove.new.self c.in-Some.ensures).0
+bounds-self-request c = (out_counted c.args.self.now c.args.ticket c.in-Some.request c.remove.new.self c.in-Some.ensures).0
 
 pub finish_one-requires : goal.finish_one-requires
-finish_one-requires c = (out-counted c.args.self.now c.args.ticket c.in-Some.request c.remove.new.self c.in-Some.ensures).1
+finish_one-requires c = (out_counted c.args.self.now c.args.ticket c.in-Some.request c.remove.new.self c.in-Some.ensures).1
 
 pub invariant_of-self-2 : goal.invariant_of-self-2
-invariant_of-self-2 c = out-whole c.args.self.now c.args.ticket c.in-Some.request c.remove.new.self c.in-Some.ensures _ c.finish_one.ensures
+invariant_of-self-2 c = out_whole c.args.self.now c.args.ticket c.in-Some.request c.remove.new.self c.in-Some.ensures _ c.finish_one.ensures
 
 pub returns : goal.returns
 returns c =
@@ -36,5 +36,5 @@ returns c =
     record {
       answer = removed_found t (state_of b).in_card _ (Some c.in-Some.request) (omega (arith, b.once t)) out;
       fewer = removed_fewer (state_of b) t _ (Some c.in-Some.request) out;
-      state = out-state b t c.in-Some.request c.remove.new.self out _ c.finish_one.ensures;
+      state = out_state b t c.in-Some.request c.remove.new.self out _ c.finish_one.ensures;
     }

@@ -1,4 +1,4 @@
-use Rattle.std.proofs.Common.{◌≡◌, length, Ok, sym, ap, ◌∙◌, arith}
+use Rattle.std.proofs.Common.{length, Ok, sym, ap, ◌∙◌, arith}
 use Rattle.sheet.specs.Sheets.{Content}
 use Rattle.books.specs.Model.{State}
 use Rattle.books.specs.Views.{state_of}

@@ -22,7 +22,7 @@ returns c =
     let i = c.loop-left.invariant in
     let ds = set c.loop-left.digits (c.loop-left.at - 1) (48 + c.loop-left.left) in
     let long : length ds ≡ 20 = simp length-set i.0 in
-    c.in-ok-extend-from-slice.ensures.items
+    c.in_ok-extend_from_slice.ensures.items
     ∙ ap (λ t. vec_items c.args.out.now ++ t) (
     ap (λ n. take (n - (c.loop-left.at - 1)) (drop (c.loop-left.at - 1) ds)) (sym long)
     ∙ take_rest ds (c.loop-left.at - 1)

@@ -10,15 +10,15 @@ use Rattle.script.proofs.cursor.Cursor.take_card.Goals as goal
 pub loop-line-init : goal.loop-line-init
 loop-line-init c = λ o says. says
 
-pub returns-in-default : goal.returns-in-default
-returns-in-default c = c.loop-line.invariant _ (nothing c.in-default.ensures.value.0)
+pub returns-in_default : goal.returns-in_default
+returns-in_default c = c.loop-line.invariant _ (nothing c.in_default.ensures.value.0)
 
-pub returns-then-not-is-blank : goal.returns-then-not-is-blank
-returns-then-not-is-blank c =
-    card_said (rest_of c.args.self.now) c.args.self.now.line (rest_of c.loop-line.self) c.in-Some.line.now (rest_of c.take-line.new.self) c.loop-line.self.line c.take-line.new.self.line
-    c.loop-line.invariant c.in-Some.ensures.value.0 c.in-Some.ensures.value.1 (sym c.is-blank.ensures ∙ c.if-not-is-blank.true)
-    c.ok-or.result (c.ok-or.ensures.value ∙ ap (λ (o : Option CardKind). ok_or o (fault c.loop-line.self.line Card)) c.card-of.ensures)
+pub returns-then-not-is_blank : goal.returns-then-not-is_blank
+returns-then-not-is_blank c =
+    card_said (rest_of c.args.self.now) c.args.self.now.line (rest_of c.loop-line.self) c.in-Some.line.now (rest_of c.take_line.new.self) c.loop-line.self.line c.take_line.new.self.line
+    c.loop-line.invariant c.in-Some.ensures.value.0 c.in-Some.ensures.value.1 (sym c.is_blank.ensures ∙ c.if-not-is_blank.true)
+    c.ok_or.result (c.ok_or.ensures.value ∙ ap (λ (o : Option CardKind). ok_or o (fault c.loop-line.self.line Card)) c.card_of.ensures)
 
 pub loop-line-preserved : goal.loop-line-preserved
 loop-line-preserved c =
-    λ o says. c.loop-line.invariant o (Begins.passes c.in-Some.ensures.value.0 (sym c.is-blank.ensures ∙ c.if-not-is-blank.false) (subst (λ k. Begins (rest_of c.take-line.new.self) k o) c.in-Some.ensures.value.1 says))
+    λ o says. c.loop-line.invariant o (Begins.passes c.in-Some.ensures.value.0 (sym c.is_blank.ensures ∙ c.if-not-is_blank.false) (subst (λ k. Begins (rest_of c.take_line.new.self) k o) c.in-Some.ensures.value.1 says))

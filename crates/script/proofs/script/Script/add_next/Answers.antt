@@ -20,21 +20,21 @@ rest_shorter text rest whole bytes e h = omega (arith, ap length e, length-appen
 pub returns-in-Err : goal.returns-in-Err
 returns-in-Err c = Says.wrong c.in-Some.ensures.value.0 (sym c.in-Err.ensures)
 
-pub returns-in-err-text : goal.returns-in-err-text
-returns-in-err-text c =
+pub returns-in_err-text-in-Sheet : goal.returns-in_err-text-in-Sheet
+returns-in_err-text-in-Sheet c =
     let v = c.in-Some.ensures.value in
-    let f = c.in-err-text.field-0.0 in
-    let lost = c.in-err-text.ensures.value in
-    turn_fault _ _ _ _ _ _ c.from-residual.result f
+    let f = c.in_err-text-in-Sheet.field-0.0 in
+    let lost = c.in_err-text-in-Sheet.ensures.value in
+    turn_fault _ _ _ _ _ _ c.from_residual.result f
     (subst (λ (g : ScriptFault). Says (rest_of c.args.cursor.now) c.args.cursor.now.line (Err g)) (sym (as_fault f lost.1))
-    (Says.lacks v.0 (sym c.in-Ok.ensures ∙ ap (λ (x : Line). Ok x) c.in-Sheet.is) (subst (λ k. skipped c.in-Sheet.count (rest_of c.take-line.new.self) k ≡ Err f.line) v.1 lost.0)))
-    c.from-residual.ensures.1
+    (Says.lacks v.0 (sym c.in-Ok.ensures ∙ ap (λ (x : Line). Ok x) c.in-Sheet.is) (subst (λ k. skipped c.in-Sheet.count (rest_of c.take_line.new.self) k ≡ Err f.line) v.1 lost.0)))
+    c.from_residual.ensures.1
 
-pub returns-in-err-add-sheet : goal.returns-in-err-add-sheet
-returns-in-err-add-sheet c = turn_memory _ _ _ _ _ _ c.from-residual-in-err-add-sheet.result c.from-residual-in-err-add-sheet.ensures.1
+pub returns-in_err-add_sheet-in-Sheet : goal.returns-in_err-add_sheet-in-Sheet
+returns-in_err-add_sheet-in-Sheet c = turn_memory _ _ _ _ _ _ c.from_residual-in_err-add_sheet-in-Sheet.result c.from_residual-in_err-add_sheet-in-Sheet.ensures.1
 
-pub returns-in-err-add-call : goal.returns-in-err-add-call
-returns-in-err-add-call c = turn_memory _ _ _ _ _ _ c.from-residual-in-err-add-call.result c.from-residual-in-err-add-call.ensures.1
+pub returns-in_err-add_call-in-Call : goal.returns-in_err-add_call-in-Call
+returns-in_err-add_call-in-Call c = turn_memory _ _ _ _ _ _ c.from_residual-in_err-add_call-in-Call.result c.from_residual-in_err-add_call-in-Call.ensures.1
 
 pub returns-in-Blank : goal.returns-in-Blank
 returns-in-Blank c =
@@ -43,28 +43,28 @@ returns-in-Blank c =
       adds_none _,
       (λ o says.
           subst (λ p. Says (rest_of c.args.cursor.now) c.args.cursor.now.line p) (sym (after_none o))
-          (Says.passes v.0 (sym c.in-Ok.ensures ∙ ap (λ (x : Line). Ok x) c.in-Blank.is) (subst (λ k. Says (rest_of c.take-line.new.self) k o) v.1 says))),
+          (Says.passes v.0 (sym c.in-Ok.ensures ∙ ap (λ (x : Line). Ok x) c.in-Blank.is) (subst (λ k. Says (rest_of c.take_line.new.self) k o) v.1 says))),
       c.in-Some.ensures.less,
     )
 
-pub returns-in-ok-add-sheet : goal.returns-in-ok-add-sheet
-returns-in-ok-add-sheet c =
+pub returns-in_ok-add_sheet-in-Sheet : goal.returns-in_ok-add_sheet-in-Sheet
+returns-in_ok-add_sheet-in-Sheet c =
     let v = c.in-Some.ensures.value in
-    let text = c.in-ok-text.text.now in
-    let on = c.in-ok-text.ensures in (
+    let text = c.in_ok-text-in-Sheet.text.now in
+    let on = c.in_ok-text-in-Sheet.ensures in (
       sheet_deed (read_sheet text) ∷ [],
-      c.in-ok-add-sheet.ensures,
+      c.in_ok-add_sheet-in-Sheet.ensures,
       (λ o says.
           Says.sheets text v.0 (sym c.in-Ok.ensures ∙ ap (λ (x : Line). Ok x) c.in-Sheet.is)
-          (subst (λ k. skipped c.in-Sheet.count (rest_of c.take-line.new.self) k ≡ Ok (rest_of c.take-lines.new.self, c.take-lines.new.self.line)) v.1 on.value) on.text says),
+          (subst (λ k. skipped c.in-Sheet.count (rest_of c.take_line.new.self) k ≡ Ok (rest_of c.take_lines.new.self, c.take_lines.new.self.line)) v.1 on.value) on.text says),
       rest_shorter text _ _ _ on.text c.in-Some.ensures.less,
     )
 
-pub returns-in-ok-add-call : goal.returns-in-ok-add-call
-returns-in-ok-add-call c =
+pub returns-in_ok-add_call-in-Call : goal.returns-in_ok-add_call-in-Call
+returns-in_ok-add_call-in-Call c =
     let v = c.in-Some.ensures.value in (
       deed_of c.in-Call.call ∷ [],
-      c.in-ok-add-call.ensures,
-      (λ o says. Says.calls v.0 (sym c.in-Ok.ensures ∙ ap (λ (x : Line). Ok x) c.in-Call.is) (subst (λ k. Says (rest_of c.take-line.new.self) k o) v.1 says)),
+      c.in_ok-add_call-in-Call.ensures,
+      (λ o says. Says.calls v.0 (sym c.in-Ok.ensures ∙ ap (λ (x : Line). Ok x) c.in-Call.is) (subst (λ k. Says (rest_of c.take_line.new.self) k o) v.1 says)),
       c.in-Some.ensures.less,
     )

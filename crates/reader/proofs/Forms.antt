@@ -5,7 +5,7 @@ use Rattle.std.proofs.lemmas.List.{take_at, drop_at, drop-drop, length-append}
 use Rattle.std.proofs.lemmas.Bool.{and_parts, and_from, cond-true, cond-false, leb-true, le-leb, lt-ltb, ltb-true, eq-eqb, ne_eqb, eqb-true, cases_Bool}
 use Rattle.std.proofs.lemmas.Fmt.{digits_decimal}
 use Rattle.std.specs.Option.{option_map, option_zip}
-use Rattle.std.specs.List.{AllByRecursion as All}
+use Rattle.std.specs.List.{AllByRecursion}
 use Rattle.reader.specs.declared.fault.Refusal.TheVariants.{Range}
 use Rattle.sheet.specs.declared.flow.Flow.{Flow}
 use Rattle.reader.specs.declared.draft.Section.{Section}
@@ -20,7 +20,7 @@ use Rattle.reader.proofs.Numbers.{Figures, own, cond_some, number_writes, number
 
 -- no byte is b
 abbrev pub Lacks : ℕ → List ℕ → Type 0
-Lacks b l = All (λ x. x ≡ b → ⊥) l
+Lacks b l = AllByRecursion (λ x. x ≡ b → ⊥) l
 
 split_at : (b : ℕ) (xs : List ℕ) (n : ℕ) → before b xs ≡ n → n < length xs → xs ≡ take n xs ++ b ∷ drop (suc n) xs
 split_at b [] n e h = absurd (omega arith)

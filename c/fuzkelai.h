@@ -1,9 +1,9 @@
 /*
  * Fuzkelai: the check of a share sheet, and the charge of a request.
  *
- * Link with libfuzkelai.a (made by `rt staticlib fuzkelai`, in target/staticlib/). Neither function
- * allocates, keeps a pointer or changes anything of the caller's, and both may be called from several
- * threads.
+ * Link with target/staticlib/libfuzkelai.a: .ci/test-c makes it, a copy of the out/libfuzkelai_c.a that
+ * `rt lib` makes in crates/fuzkelai_c. Neither function allocates, keeps a pointer or changes anything of
+ * the caller's, and both may be called from several threads.
  */
 #ifndef FUZKELAI_H
 #define FUZKELAI_H

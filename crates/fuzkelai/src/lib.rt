@@ -1,4 +1,6 @@
-// What C programs call: the check of a share sheet, and the charge of a request.
+// What C programs call: the check of a share sheet, and the charge of a request. The crate fuzkelai_c exports both from the static library.
+#![tactic(auto)]
+
 ghost use Rattle.std.specs.Prelude.{◌≡◌, true, ◌&&◌, Decides, ◌==◌, ◌≢◌};
 ghost use Rattle.charge.specs.Charge.{within};
 ghost use Rattle.reader.specs.Format.{read_sheet};

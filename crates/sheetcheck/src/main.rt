@@ -1,4 +1,6 @@
 // Reads a share sheet from the standard input, and prints the verdict on it.
+#![tactic(auto)]
+
 use reader::verdict::{ENOUGH, verdict};
 use std::io;
 use std::io::Read;

@@ -1,4 +1,6 @@
 // Rehearses a flight: reads a script from the standard input, and prints one line for each of its calls.
+#![tactic(auto)]
+
 use anyhow::anyhow;
 use bank::BankCard;
 use card::Card;

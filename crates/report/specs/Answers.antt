@@ -1,5 +1,5 @@
 -- The lines of answers.
-use Rattle.std.specs.Prelude.{ℕ, List, [], ◌∷◌, ◌++◌, Ok, Err, codes, decimal, Result}
+use Rattle.std.specs.Prelude.{ℕ, List, [], ◌∷◌, ◌++◌, Ok, Err, codes, decimal}
 use Rattle.board.specs.declared.answer.Reaping.{Reaping}
 use Rattle.board.specs.declared.answer.Reaping.TheVariants.{Finished, NotYet, Idle}
 use Rattle.board.specs.declared.answer.Sending.{Sending}

@@ -2,7 +2,6 @@
 use Rattle.std.proofs.Common.{◌≡◌, ℕ, ◌+◌, ◌-◌, ◌*◌, ◌^◌, ◌<◌, ◌≤◌, Bool, true, false, cond, ◌&&◌, eqb, ltb, List, [], ◌∷◌, length, Some, None, decimal, Option, sym, refl, ap, ◌∙◌, arith}
 use Rattle.std.proofs.lemmas.Fmt.{decimal_is_IsNumeral}
 use Rattle.std.proofs.lemmas.Bool.{and_parts, and_from, cond-true, cond-false, eqb-false, ltb-true, lt-ltb, ne_eqb}
-use Rattle.std.specs.Str.Parse.{AllDigits, digits_value}
 use Rattle.reader.specs.Lines.{is_digit}
 use Rattle.reader.proofs.Numbers.{Figures, read_on, own, cond_some}
 use Rattle.sheet.specs.Ranges.{all_of}

@@ -1,5 +1,5 @@
 -- From the lines of a script to what its text says. Assumes nothing.
-use Rattle.std.proofs.Common.{◌≡◌, ℕ, ◌+◌, ◌<◌, Bool, true, false, List, [], ◌++◌, map, length, IsErrAnd, Some, None, Ok, Err, vec_items, Option, Result, sym, refl, ap, ◌∙◌, subst, append-nil, arith}
+use Rattle.std.proofs.Common.{◌≡◌, ℕ, ◌+◌, Bool, true, false, List, [], ◌++◌, map, IsErrAnd, Some, None, Ok, Err, vec_items, Option, Result, sym, refl, ap, ◌∙◌, subst, append-nil, arith}
 use Rattle.std.specs.Option.{ok_or}
 use Rattle.fly.specs.declared.call.Call.{Call}
 use Rattle.script.specs.Lines.{is_blank, card_of}

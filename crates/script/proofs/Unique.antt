@@ -1,5 +1,5 @@
 -- A text says one thing. Assumes nothing.
-use Rattle.std.proofs.Common.{◌≡◌, ℕ, ◌+◌, ◌-◌, Bool, true, false, List, [], ◌∷◌, ◌++◌, length, take, Some, None, Ok, Err, Option, Result, sym, refl, ap, ◌∙◌, subst, arith}
+use Rattle.std.proofs.Common.{◌≡◌, ℕ, ◌+◌, Bool, true, false, List, [], ◌∷◌, ◌++◌, Some, None, Ok, Err, Option, Result, sym, refl, ap, ◌∙◌, subst}
 use Rattle.reader.specs.Format.{read_sheet}
 use Rattle.script.specs.Lines.{is_blank, card_of, line_of}
 use Rattle.script.specs.Scripts.{Deed, Says, Begins, after, deed_of, fault, next_line, sheet_deed, skipped, with_card}

@@ -4,7 +4,7 @@
 mod cursor;
 mod cut;
 pub mod fault;
-pub mod laws;
+pub mod law;
 pub mod line;
 mod number;
 pub mod reading;

@@ -1,6 +1,6 @@
 -- A run that meets the limit on what is sent. Two flows with the same weight and the same charge, 9, have requests waiting, and requests may start 9 ahead of virtual time.
 -- First two requests of flow 1 are sent, the second of them ahead of virtual time; then four of flow 0, the last again ahead of it: 36, against 0 for flow 1.
-use Rattle.std.specs.Prelude.{◌≡◌, ℕ, ◌+◌, List, [], ◌∷◌, ◌++◌, sum_by}
+use Rattle.std.specs.Prelude.{◌≡◌, ◌+◌, List, [], ◌∷◌, ◌++◌, sum_by}
 use Rattle.sheet.specs.Sheets.{Content}
 use Rattle.shares.specs.Events.{Event}
 use Rattle.shares.specs.Law.{Stretch, sent_for, sent_limit}

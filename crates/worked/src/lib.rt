@@ -1,4 +1,6 @@
 // The worked examples, computed by the rules themselves: sheets, one flight, the limits of a sheet, and a run that meets a limit.
+#![tactic(auto)]
+
 ghost use Rattle.std.specs.Prelude.{◌≡◌};
 ghost use Rattle.worked.specs.Examples.{computed, expected};
 ghost use Rattle.worked.specs.Limit.{LimitMet};

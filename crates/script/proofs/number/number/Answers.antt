@@ -1,4 +1,4 @@
-use Rattle.std.proofs.Common.{◌≡◌, ◌+◌, ◌*◌, length, drop, sym, ap, ◌∙◌, inl, inr, arith, false-eqb}
+use Rattle.std.proofs.Common.{◌+◌, ◌*◌, drop, sym, ap, ◌∙◌, inl, inr, arith, false-eqb}
 use Rattle.script.specs.Words.{digits_from}
 use Rattle.script.proofs.Steps.{digits_on, digits_off, digits_large, digits_end, number_is}
 use Rattle.script.proofs.number.number.Goals as goal

@@ -1,4 +1,4 @@
-use Rattle.std.proofs.Common.{◌≡◌, [], ◌++◌, Ok, sym, ap, ◌∙◌, subst, arith}
+use Rattle.std.proofs.Common.{[], ◌++◌, Ok, sym, ap, ◌∙◌, subst, arith}
 use Rattle.script.specs.Scripts.{Says, after}
 use Rattle.script.specs.Views.{rest_of}
 use Rattle.script.specs.declared.script.Script.{Script}

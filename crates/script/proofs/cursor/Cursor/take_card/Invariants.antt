@@ -1,4 +1,4 @@
-use Rattle.std.proofs.Common.{ℕ, List, length, Result}
+use Rattle.std.proofs.Common.{List, length, Result}
 use Rattle.script.specs.Scripts.{Begins, Deed}
 use Rattle.script.specs.Views.{rest_of}
 use Rattle.script.specs.declared.fault.ScriptFault.{ScriptFault}

@@ -1,4 +1,4 @@
-use Rattle.std.proofs.Common.{◌≡◌, ℕ, ◌<◌, List, length, Some, sym, refl, ap, ◌∙◌, arith, rules, false-eqb}
+use Rattle.std.proofs.Common.{◌≡◌, ℕ, ◌<◌, List, length, Some, sym, refl, ap, ◌∙◌, arith, false-eqb}
 use Rattle.script.specs.Scripts.{line_at}
 use Rattle.script.proofs.Texts.{line_shorter, next_some}
 use Rattle.script.proofs.cursor.Cursor.take_line.Goals as goal

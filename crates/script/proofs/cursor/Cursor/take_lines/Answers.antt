@@ -1,4 +1,4 @@
-use Rattle.std.proofs.Common.{◌≡◌, ℕ, ◌+◌, ◌-◌, List, [], ◌++◌, length, take, sym, refl, ap, ◌∙◌, subst, append_assoc, arith, length-append}
+use Rattle.std.proofs.Common.{◌≡◌, ◌+◌, ◌-◌, [], ◌++◌, length, take, sym, refl, ap, ◌∙◌, append_assoc, arith, length-append}
 use Rattle.script.specs.Scripts.{skipped}
 use Rattle.script.specs.Views.{rest_of}
 use Rattle.script.proofs.Texts.{next_front, front_taken, skip_on, skip_off, skip_end}

@@ -1,6 +1,5 @@
-use Rattle.std.proofs.Common.{◌≡◌, ℕ, ◌<◌, ◌≤◌, List, [], ◌∷◌, ◌++◌, length, Ok, Err, sym, ap, ◌∙◌, subst, arith, length-append}
+use Rattle.std.proofs.Common.{◌≡◌, ℕ, ◌<◌, List, [], ◌∷◌, ◌++◌, length, Ok, Err, sym, ap, ◌∙◌, subst, arith, length-append}
 use Rattle.reader.specs.Format.{read_sheet}
-use Rattle.script.specs.Lines.{line_of}
 use Rattle.script.specs.Scripts.{Says, deed_of, fault, sheet_deed, skipped}
 use Rattle.script.specs.Views.{rest_of}
 use Rattle.script.specs.declared.fault.Expected.TheVariants.{SheetLine}

@@ -1,6 +1,8 @@
 // bench CARD CALLS PASSES: makes a list of calls, runs it on fresh boards, and prints the checksum of all answers.
 //
 // CARD is `queue`, `bank` or `both`. The list and the checksum are those of docs/PERFORMANCE.md; the time of each pass goes to the standard error.
+#![tactic(auto)]
+
 mod checksum;
 mod list;
 mod numbers;

@@ -25,7 +25,7 @@ NAMES = {
 WORD = re.compile(r"(?<![\w'·-])(%s)(?![\w'·-])" % "|".join(re.escape(n) for n in sorted(NAMES, key=len, reverse=True)))
 
 for crate in sys.argv[1:] or sorted(p.split("/")[1] for p in glob.glob("crates/*/")):
-    for path in sorted(glob.glob(f"crates/{crate}/**/*.antt", recursive=True)):
+    for path in sorted(glob.glob(f"crates/{crate}/specs/**/*.antt", recursive=True) + glob.glob(f"crates/{crate}/proofs/**/*.antt", recursive=True)):
         with open(path, encoding="utf-8") as f:
             old = f.read()
         new = WORD.sub(lambda m: NAMES[m.group(1)], old)

@@ -14,6 +14,7 @@ use script::reading::read_script;
 use script::script::{Script, Step};
 use std::io;
 use std::io::{Read, Write};
+use std::process::ExitCode;
 
 // Prints the line of each step.
 fn print_report<'a>(rt: &HostRuntime, steps: &'a [Step], answers: &'a [Answer]) -> io::Result<()> {
@@ -50,12 +51,13 @@ fn run(rt: &HostRuntime) -> anyhow::Result<()> {
     }
 }
 
-fn main(rt: HostRuntime) -> anyhow::Result<()> {
+// What was wrong is told in one line of its own, and the status is 1.
+fn main(rt: HostRuntime) -> anyhow::Result<ExitCode> {
     match run(&rt) {
-        Ok(()) => Ok(()),
+        Ok(()) => Ok(ExitCode::SUCCESS),
         Err(error) => {
             eprintln!(rt; "flight: {error}")?;
-            Err(error)
+            Ok(ExitCode::FAILURE)
         }
     }
 }

@@ -1,5 +1,6 @@
 #!/usr/bin/env python3
-"""Turned the names of lemmas inside modules with parameters, which tools/respell.py had passed over, to snake case.
+"""Turned the names of lemmas inside modules with parameters, which tools/respell.py had passed over, to snake case,
+with the name of a fact or a definition as it stands, after a dash.
 Run at the top; it may be run again. usage: tools/respell_inner.py CRATE.. (all crates where none is named)"""
 import glob
 import re
@@ -21,6 +22,10 @@ NAMES = {
     'skip-on': 'skip_on', 'spell-more': 'spell_more', 'then-errs': 'then_errs', 'then-late': 'then_late', 'then-oks': 'then_oks',
     'then-used': 'then_used', 'turn-ends': 'turn_ends', 'turn-fault': 'turn_fault', 'turn-goes': 'turn_goes', 'turn-memory': 'turn_memory',
     'unread-told': 'unread_told',
+    'all-sorted': 'AllByRecursion-sorted', 'charge_for_lem': 'own_charge', 'first-sorted': 'first_sorted', 'ordered-insert': 'Ordered-insert',
+    'ordered-sorted': 'Ordered-sorted', 'peeked-head': 'peeked_head', 'popped-sorted': 'popped_sorted', 'pushed-sorted': 'pushed_sorted',
+    'same-ordered': 'same_ordered', 'shuffled-insert': 'IsPermutation-insert', 'shuffled-sorted': 'IsPermutation-sorted',
+    'sorted-shuffled': 'sorted-IsPermutation', 'worded-blank': 'worded_blank',
 }
 WORD = re.compile(r"(?<![\w'·-])(%s)(?![\w'·-])" % "|".join(re.escape(n) for n in sorted(NAMES, key=len, reverse=True)))
 

@@ -6,7 +6,7 @@ use Rattle.std.proofs.lemmas.Nat.{pow_below}
 use Rattle.std.proofs.lemmas.List.Sums.{sum_by-cons}
 use Rattle.std.proofs.lemmas.Bool.{cases_Bool, cases_lt, cases_eq, cond-true, cond-false, cond_both, both_ways, or_left, or_right, and_from, lt-ltb, eq-eqb, eqb-true, ne_eqb, le-leb}
 use Rattle.heap.specs.Sorting.{upto, sorted}
-use Rattle.heap.proofs.Sorting.{First, Ordered, upto_either, upto_alike, ordered-sorted, all-sorted, sum_by-sorted, length-sorted, none_before}
+use Rattle.heap.proofs.Sorting.{First, Ordered, upto_either, upto_alike, Ordered-sorted, AllByRecursion-sorted, sum_by-sorted, length-sorted, none_before}
 use Rattle.near.specs.Lanes.{distance, table, In, Nearest}
 use Rattle.near.proofs.Sets.{bit_old, bit_new, bit_none, bit_fits}
 use Rattle.lanes.specs.Lanes.{head_of, starts, least}
@@ -53,7 +53,7 @@ module _ (by : ℕ → List ℕ) (tell : (x y : ℕ) → by x ≡ by y → x ≡
 
   first_kept : (p : ℕ → Bool) (k : ℕ) → k < 8 → p k ≡ true → ((j : ℕ) → j < 8 → p j ≡ true → First by k j) → head_of (sorted by (filter p eight)) ≡ Some k
   first_kept p k l t h =
-      head_is k (sorted by (filter p eight)) (ordered-sorted by (filter p eight)) (all-sorted by (First by k) (filter p eight) (all_kept p (First by k) eight (each (λ j. p j ≡ true → First by k j) h)))
+      head_is k (sorted by (filter p eight)) (Ordered-sorted by (filter p eight)) (AllByRecursion-sorted by (First by k) (filter p eight) (all_kept p (First by k) eight (each (λ j. p j ≡ true → First by k j) h)))
       (λ g. omega (arith, sum_by-sorted by g (filter p eight), kept_le g p eight k 0 l (ap p (itself k l) ∙ t), ap g (itself k l)))
 
 -- what the bits say

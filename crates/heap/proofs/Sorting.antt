@@ -69,33 +69,33 @@ module _ {X : Type 0} (by : X → List ℕ) where
   all_insert P x [] p q = (p, tt)
   all_insert P x (y ∷ ys) p q = cond_both (upto (by x) (by y)) (x ∷ y ∷ ys) (y ∷ insert by x ys) (AllByRecursion P) (λ _. (p, q)) (λ _. (q.0, all_insert P x ys p q.1))
 
-  pub all-sorted : (P : X → Type 0) (xs : List X) → AllByRecursion P xs → AllByRecursion P (sorted by xs)
-  all-sorted P [] h = tt
-  all-sorted P (x ∷ xs) h = all_insert P x (sorted by xs) h.0 (all-sorted P xs h.1)
+  pub AllByRecursion-sorted : (P : X → Type 0) (xs : List X) → AllByRecursion P xs → AllByRecursion P (sorted by xs)
+  AllByRecursion-sorted P [] h = tt
+  AllByRecursion-sorted P (x ∷ xs) h = all_insert P x (sorted by xs) h.0 (AllByRecursion-sorted P xs h.1)
 
   after : (x y : X) (ys : List X) → First by x y → AllByRecursion (First by y) ys → AllByRecursion (First by x) ys
   after x y [] f h = tt
   after x y (z ∷ zs) f h = (upto_chain (by x) (by y) (by z) f h.0, after x y zs f h.1)
 
-  pub ordered-insert : (x : X) (ys : List X) → Ordered by ys → Ordered by (insert by x ys)
-  ordered-insert x [] h = (tt, tt)
-  ordered-insert x (y ∷ ys) h = cond_both (upto (by x) (by y)) (x ∷ y ∷ ys) (y ∷ insert by x ys) (Ordered by)
+  pub Ordered-insert : (x : X) (ys : List X) → Ordered by ys → Ordered by (insert by x ys)
+  Ordered-insert x [] h = (tt, tt)
+  Ordered-insert x (y ∷ ys) h = cond_both (upto (by x) (by y)) (x ∷ y ∷ ys) (y ∷ insert by x ys) (Ordered by)
       (λ e. ((e, after x y ys e h.0), h))
-      (λ e. (all_insert (First by y) x ys (upto_either (by x) (by y) e) h.0, ordered-insert x ys h.1))
+      (λ e. (all_insert (First by y) x ys (upto_either (by x) (by y) e) h.0, Ordered-insert x ys h.1))
 
-  pub ordered-sorted : (xs : List X) → Ordered by (sorted by xs)
-  ordered-sorted [] = tt
-  ordered-sorted (x ∷ xs) = ordered-insert x (sorted by xs) (ordered-sorted xs)
+  pub Ordered-sorted : (xs : List X) → Ordered by (sorted by xs)
+  Ordered-sorted [] = tt
+  Ordered-sorted (x ∷ xs) = Ordered-insert x (sorted by xs) (Ordered-sorted xs)
 
-  pub shuffled-insert : (x : X) (ys : List X) → IsPermutation (x ∷ ys) (insert by x ys)
-  shuffled-insert x [] = IsPermutation-refl (x ∷ [])
-  shuffled-insert x (y ∷ ys) = cond_both (upto (by x) (by y)) (x ∷ y ∷ ys) (y ∷ insert by x ys) (IsPermutation (x ∷ y ∷ ys))
+  pub IsPermutation-insert : (x : X) (ys : List X) → IsPermutation (x ∷ ys) (insert by x ys)
+  IsPermutation-insert x [] = IsPermutation-refl (x ∷ [])
+  IsPermutation-insert x (y ∷ ys) = cond_both (upto (by x) (by y)) (x ∷ y ∷ ys) (y ∷ insert by x ys) (IsPermutation (x ∷ y ∷ ys))
       (λ _. IsPermutation-refl (x ∷ y ∷ ys))
-      (λ _. IsPermutation-trans _ _ _ (IsPermutation-swap (x ∷ y ∷ ys) (y ∷ x ∷ ys) 0 1 (omega arith) (omega arith) refl) (IsPermutation-cons y (x ∷ ys) (insert by x ys) (shuffled-insert x ys)))
+      (λ _. IsPermutation-trans _ _ _ (IsPermutation-swap (x ∷ y ∷ ys) (y ∷ x ∷ ys) 0 1 (omega arith) (omega arith) refl) (IsPermutation-cons y (x ∷ ys) (insert by x ys) (IsPermutation-insert x ys)))
 
-  pub shuffled-sorted : (xs : List X) → IsPermutation xs (sorted by xs)
-  shuffled-sorted [] = IsPermutation-refl []
-  shuffled-sorted (x ∷ xs) = IsPermutation-trans _ _ _ (IsPermutation-cons x xs (sorted by xs) (shuffled-sorted xs)) (shuffled-insert x (sorted by xs))
+  pub IsPermutation-sorted : (xs : List X) → IsPermutation xs (sorted by xs)
+  IsPermutation-sorted [] = IsPermutation-refl []
+  IsPermutation-sorted (x ∷ xs) = IsPermutation-trans _ _ _ (IsPermutation-cons x xs (sorted by xs) (IsPermutation-sorted xs)) (IsPermutation-insert x (sorted by xs))
 
   -- what is at or before all goes to the front
   pub insert-first : (x : X) (ys : List X) → AllByRecursion (First by x) ys → insert by x ys ≡ x ∷ ys
@@ -115,22 +115,22 @@ module _ {X : Type 0} (by : X → List ℕ) where
         absurd (omega (arith, h g, sum_by-cons g x xs, none_before y (y ∷ ys) (itself, o.0), cond-false {A = ℕ} (upto (by y) (by x)) 0 1 f)))
         (cases_Bool (upto (by y) (by x)))
 
-    pub same-ordered : (xs ys : List X) → Ordered by xs → Ordered by ys → ((g : X → ℕ) → sum_by g xs ≡ sum_by g ys) → xs ≡ ys
-    same-ordered [] [] o p h = refl
-    same-ordered [] (y ∷ ys) o p h = absurd (omega (arith, h (λ _. 1), sum_by-cons (λ _. 1) y ys))
-    same-ordered (x ∷ xs) [] o p h = absurd (omega (arith, h (λ _. 1), sum_by-cons (λ _. 1) x xs))
-    same-ordered (x ∷ xs) (y ∷ ys) o p h =
+    pub same_ordered : (xs ys : List X) → Ordered by xs → Ordered by ys → ((g : X → ℕ) → sum_by g xs ≡ sum_by g ys) → xs ≡ ys
+    same_ordered [] [] o p h = refl
+    same_ordered [] (y ∷ ys) o p h = absurd (omega (arith, h (λ _. 1), sum_by-cons (λ _. 1) y ys))
+    same_ordered (x ∷ xs) [] o p h = absurd (omega (arith, h (λ _. 1), sum_by-cons (λ _. 1) x xs))
+    same_ordered (x ∷ xs) (y ∷ ys) o p h =
         let e : x ≡ y = tell x y (upto_alike (by x) (by y) (head_first y x ys xs o (λ g. sym (h g))) (head_first x y xs ys p h)) in
-        let t = same-ordered xs ys o.1 p.1 (λ g. omega (arith, h g, sum_by-cons g x xs, sum_by-cons g y ys, ap g e)) in
+        let t = same_ordered xs ys o.1 p.1 (λ g. omega (arith, h g, sum_by-cons g x xs, sum_by-cons g y ys, ap g e)) in
         λ i. e i ∷ t i
 
-    pub sorted-shuffled : (xs ys : List X) → IsPermutation xs ys → sorted by ys ≡ sorted by xs
-    sorted-shuffled xs ys s = same-ordered (sorted by ys) (sorted by xs) (ordered-sorted ys) (ordered-sorted xs)
+    pub sorted-IsPermutation : (xs ys : List X) → IsPermutation xs ys → sorted by ys ≡ sorted by xs
+    sorted-IsPermutation xs ys s = same_ordered (sorted by ys) (sorted by xs) (Ordered-sorted ys) (Ordered-sorted xs)
         (λ g. sum_by-sorted g ys ∙ sum_by-IsPermutation g xs ys s ∙ sym (sum_by-sorted g xs))
 
 pub sorting_stands_lem : (X : Type 0) (by : X → List ℕ) → SortingStands X by
 sorting_stands_lem X by = record {
-  sorts = λ xs. record { same = shuffled-sorted by xs; ordered = ordered-sorted by xs };
-  inserts = λ x ys o. record { same = shuffled-insert by x ys; ordered = ordered-insert by x ys o };
-  unique = λ tell xs ys h. same-ordered by tell ys (sorted by xs) h.ordered (ordered-sorted by xs) (λ g. sum_by-IsPermutation g xs ys h.same ∙ sym (sum_by-sorted by g xs));
+  sorts = λ xs. record { same = IsPermutation-sorted by xs; ordered = Ordered-sorted by xs };
+  inserts = λ x ys o. record { same = IsPermutation-insert by x ys; ordered = Ordered-insert by x ys o };
+  unique = λ tell xs ys h. same_ordered by tell ys (sorted by xs) h.ordered (Ordered-sorted by xs) (λ g. sum_by-IsPermutation g xs ys h.same ∙ sym (sum_by-sorted by g xs));
 }

@@ -3,7 +3,7 @@ use Rattle.std.proofs.Common.{◌≡◌, ℕ, zero, suc, ◌<◌, ◌≤◌, tru
 use Rattle.std.specs.List.{AllByRecursion}
 use Rattle.std.proofs.lemmas.List.{length-map}
 use Rattle.std.proofs.lemmas.Bool.{and_from, lt-ltb}
-use Rattle.heap.proofs.Sorting.{Ordered, ordered-sorted}
+use Rattle.heap.proofs.Sorting.{Ordered, Ordered-sorted}
 use Rattle.lanes.specs.Lanes.{has_room, lanes_of}
 use Rattle.lanes.specs.Records.{by_start, by_ticket}
 use Rattle.lanes.specs.Table.{in_card_of}
@@ -33,7 +33,7 @@ lanes_ordered l = go l.array.lanes
   where
     go : (ls : List Lane) → AllByRecursion (Ordered by_start) (lanes_in ls)
     go [] = tt
-    go (v ∷ ls) = (ordered-sorted by_start (take v.count v.slots), go ls)
+    go (v ∷ ls) = (Ordered-sorted by_start (take v.count v.slots), go ls)
 
 -- at most 32 are in the card
 pub in_card_few : (c : InCard) → length (in_card_of c) ≤ 32
@@ -41,7 +41,7 @@ in_card_few c = omega (arith, length_held by_ticket c.slots c.count c.sized c.wi
 
 -- in order of tickets
 pub in_card_ordered : (c : InCard) → Ordered by_ticket (in_card_of c)
-in_card_ordered c = ordered-sorted by_ticket (take c.count c.slots)
+in_card_ordered c = Ordered-sorted by_ticket (take c.count c.slots)
 
 -- where there is room, a push enters
 pub has_room_lem : (i : ℕ) (ls : List (List Request)) → i < 8 → length (get_or ls i []) < 32 → has_room i ls ≡ true

@@ -4,7 +4,7 @@ use Rattle.std.proofs.lemmas.List.{length-take}
 use Rattle.std.proofs.lemmas.Bool.{lt-ltb, le-ltb}
 use Rattle.heap.specs.Heaps.{Heaped, Pushed, Popped}
 use Rattle.heap.specs.Sorting.{insert, sorted, Pops}
-use Rattle.heap.proofs.Queue.{pushed-sorted, popped-sorted}
+use Rattle.heap.proofs.Queue.{pushed_sorted, popped_sorted}
 use Rattle.heap.proofs.Sorting.{length-sorted}
 use Rattle.lanes.specs.Records.{by_start, by_ticket, request_upto}
 use Rattle.lanes.specs.declared.records.Request.{Request}
@@ -31,8 +31,8 @@ pushed xs₀ xs ys n₀ n m x r p q e l h = go r (subst (λ v. Pushed request_up
     long = length_held by_start xs n e l
 
     go : (r : Bool) → Pushed request_upto xs n x r ys m → Entered (sorted by_start (take n xs)) x r (sorted by_start (take m ys))
-    go true t = record { answer = sym (lt-ltb _ 32 (omega (arith, long, t.room))); after = pushed-sorted by_start told_by_start xs ys n m x t }
+    go true t = record { answer = sym (lt-ltb _ 32 (omega (arith, long, t.room))); after = pushed_sorted by_start told_by_start xs ys n m x t }
     go false t = record { answer = sym (le-ltb _ 32 (omega (arith, long, t.0))); after = λ i. sorted by_start (take (t.1.1 i) (t.1.0 i)) }
 
 pub popped : (xs₀ xs ys : List Request) (n₀ n m : ℕ) (r : Option Request) → xs₀ ≡ xs → n₀ ≡ n → Heaped request_upto (take n xs) → Popped request_upto xs₀ n₀ r ys m → Pops (sorted by_start (take n xs)) r (sorted by_start (take m ys))
-popped xs₀ xs ys n₀ n m r p q o h = popped-sorted by_start told_by_start xs ys n m r (subst (λ v. Popped request_upto v n r ys m) p (subst (λ k. Popped request_upto xs₀ k r ys m) q h)) o
+popped xs₀ xs ys n₀ n m r p q o h = popped_sorted by_start told_by_start xs ys n m r (subst (λ v. Popped request_upto v n r ys m) p (subst (λ k. Popped request_upto xs₀ k r ys m) q h)) o

@@ -5,7 +5,7 @@ use Rattle.std.proofs.lemmas.List.Sorted.{IsPermutation-to_front}
 use Rattle.std.proofs.lemmas.List.Sums.{sum_by-cons, sum_by_more, sum_by-set}
 use Rattle.std.proofs.lemmas.Bool.{cases_eq, cond-true, cond-false, eq-eqb, ne_eqb}
 use Rattle.heap.specs.Sorting.{insert, sorted}
-use Rattle.heap.proofs.Sorting.{ordered-sorted, same-ordered, sorted-shuffled, sum_by-sorted}
+use Rattle.heap.proofs.Sorting.{Ordered-sorted, same_ordered, sorted-IsPermutation, sum_by-sorted}
 use Rattle.lanes.specs.Records.{by_ticket, ticket_is}
 use Rattle.lanes.specs.Table.{Removes}
 use Rattle.lanes.specs.declared.records.Request.{Request}
@@ -18,7 +18,7 @@ passed number xs i t d l ne z = omega (arith, sum_by_more (λ x. cond (eqb (numb
 pub stored : (xs : List Request) (n : ℕ) (x : Request) → n < length xs → sorted by_ticket (take (n + 1) (set xs n x)) ≡ insert by_ticket x (sorted by_ticket (take n xs))
 stored xs n x l =
     ap (sorted by_ticket) (take_more_set xs n x l)
-    ∙ sym (sorted-shuffled by_ticket told_by_ticket (take n xs ++ x ∷ []) (x ∷ take n xs) (IsPermutation-to_front (take n xs) x))
+    ∙ sym (sorted-IsPermutation by_ticket told_by_ticket (take n xs ++ x ∷ []) (x ∷ take n xs) (IsPermutation-to_front (take n xs) x))
 
 take-set_under : (m : ℕ) (xs : List Request) (i : ℕ) (a : Request) → i < m → take m (set xs i a) ≡ set (take m xs) i a
 take-set_under zero xs i a l = absurd (omega (arith, l))
@@ -42,7 +42,7 @@ removes xs n m i t d e l b s =
     let rest = take m (set xs i (get_or xs m d)) in
     let all : (g : Request → ℕ) → sum_by g (take n xs) ≡ g x + sum_by g rest = λ g. filled g xs n m i d e l b in (
       s,
-      same-ordered by_ticket told_by_ticket (sorted by_ticket (take n xs)) (sorted by_ticket (x ∷ rest)) (ordered-sorted by_ticket (take n xs)) (ordered-sorted by_ticket (x ∷ rest))
+      same_ordered by_ticket told_by_ticket (sorted by_ticket (take n xs)) (sorted by_ticket (x ∷ rest)) (Ordered-sorted by_ticket (take n xs)) (Ordered-sorted by_ticket (x ∷ rest))
           (λ g. omega (arith, sum_by-sorted by_ticket g (take n xs), all g, sum_by-sorted by_ticket g (x ∷ rest), sum_by-cons g x rest)),
       λ one. omega (arith, one, sum_by-sorted by_ticket (ticket_is t) (take n xs), sum_by-sorted by_ticket (ticket_is t) rest, all (ticket_is t), cond-true {A = ℕ} (eqb x.ticket t) 1 0 (eq-eqb x.ticket t s)),
     )

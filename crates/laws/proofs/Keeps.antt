@@ -8,7 +8,7 @@ use Rattle.std.proofs.lemmas.List.Sorted.{IsPermutation-refl}
 use Rattle.std.proofs.ByRecursion.{all_shuffled}
 use Rattle.std.proofs.lemmas.Bool.{cond_both, leb-false, or_parts, eqb-false, ltb-false}
 use Rattle.charge.proofs.Charges.{laws}
-use Rattle.heap.proofs.Sorting.{Ordered, ordered-insert}
+use Rattle.heap.proofs.Sorting.{Ordered, Ordered-insert}
 use Rattle.shares.specs.Events as share
 use Rattle.shares.specs.Steps as step
 use Rattle.shares.proofs.Shuffles.{requests_from_sums}
@@ -57,7 +57,7 @@ arrives s f l n k fair f< l< some most' =
       sheet = refl;
       clock = record {
         onward = least_over s.time s.time (starts s'.lanes) (omega arith) (heads_over s.time s'.lanes over');
-        least = all_over s'.time s'.lanes (least_under s.time (starts s'.lanes)) (all_set (Ordered by_start) s.lanes l _ fair.3 (ordered-insert by_start r (lane_at s l) (all_at (Ordered by_start) s.lanes l fair.3 tt)));
+        least = all_over s'.time s'.lanes (least_under s.time (starts s'.lanes)) (all_set (Ordered by_start) s.lanes l _ fair.3 (Ordered-insert by_start r (lane_at s l) (all_at (Ordered by_start) s.lanes l fair.3 tt)));
       };
     }
 

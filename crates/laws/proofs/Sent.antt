@@ -10,7 +10,7 @@ use Rattle.std.proofs.lemmas.Bool.{cond_both, cond-true, cond-false, leb-true, l
 use Rattle.sheet.proofs.Fits.{all_of_at, flow_fits_lem}
 use Rattle.sheet.specs.Ranges.{flow_fits}
 use Rattle.sheet.specs.Sheets.{no_flow}
-use Rattle.heap.proofs.Sorting.{Ordered, ordered-sorted, sum_by-insert, all-sorted}
+use Rattle.heap.proofs.Sorting.{Ordered, Ordered-sorted, sum_by-insert, AllByRecursion-sorted}
 use Rattle.card.specs.declared.CardFault.{CardFault}
 use Rattle.shares.specs.Events as share
 use Rattle.shares.specs.Steps as step
@@ -87,7 +87,7 @@ kicks_step_lem depth held s l k fair =
     cond_both (leb (length s.sheet.lanes) l) _ _ (Steps s) (λ _. rests s) (λ _.
     cond_both (eqb (length (starts s.lanes)) 0) _ _ (Steps s) (λ _. rests s) (λ _.
     cond_both (leb s.sheet.slots (length s.in_card)) _ _ (Steps s) (λ _. rests s) (λ room.
-    go (ready_lanes s l) (leb-false _ _ room) (all-sorted (λ j. distance l j ∷ j ∷ []) (λ j. (j < 8) × (ready s j ≡ true)) (filter (ready s) eight) (all_kept (ready s) (λ j. (j < 8) × (ready s j ≡ true)) eight (each (λ j. ready s j ≡ true → (j < 8) × (ready s j ≡ true)) (λ j b t. (b, t))))))))
+    go (ready_lanes s l) (leb-false _ _ room) (AllByRecursion-sorted (λ j. distance l j ∷ j ∷ []) (λ j. (j < 8) × (ready s j ≡ true)) (filter (ready s) eight) (all_kept (ready s) (λ j. (j < 8) × (ready s j ≡ true)) eight (each (λ j. ready s j ≡ true → (j < 8) × (ready s j ≡ true)) (λ j b t. (b, t))))))))
   where
     first : (j : ℕ) (w : List Request) → lane_at s j ≡ w → ready_with s w ≡ true → j < 8 → length s.in_card < s.sheet.slots → Steps s (hand_first depth held s j w)
     first j [] e t b room = rests s
@@ -173,7 +173,7 @@ loads_step_lem depth held s sheet o =
 
 lanes_ordered : (ls : List Lane) → AllByRecursion (Ordered by_start) (lanes_in ls)
 lanes_ordered [] = tt
-lanes_ordered (l ∷ ls) = (ordered-sorted by_start (take l.count l.slots), lanes_ordered ls)
+lanes_ordered (l ∷ ls) = (Ordered-sorted by_start (take l.count l.slots), lanes_ordered ls)
 
 pub books_fair_lem : BooksFair
 books_fair_lem b =

@@ -150,19 +150,19 @@ letters_lack Time = ((λ e. omega arith), ((λ e. omega arith), ((λ e. omega ar
 letters_lack Ready = ((λ e. omega arith), ((λ e. omega arith), ((λ e. omega arith), ((λ e. omega arith), ((λ e. omega arith), tt)))))
 letters_lack Flow = ((λ e. omega arith), ((λ e. omega arith), ((λ e. omega arith), ((λ e. omega arith), tt))))
 
-worded-blank : (w : Word) (rest : List ℕ) → is_blank (letters w ++ rest) ≡ false
-worded-blank Sheet rest = refl
-worded-blank Arrive rest = refl
-worded-blank Send rest = refl
-worded-blank Kick rest = refl
-worded-blank Reap rest = refl
-worded-blank Time rest = refl
-worded-blank Ready rest = refl
-worded-blank Flow rest = refl
+worded_blank : (w : Word) (rest : List ℕ) → is_blank (letters w ++ rest) ≡ false
+worded_blank Sheet rest = refl
+worded_blank Arrive rest = refl
+worded_blank Send rest = refl
+worded_blank Kick rest = refl
+worded_blank Reap rest = refl
+worded_blank Time rest = refl
+worded_blank Ready rest = refl
+worded_blank Flow rest = refl
 
 numbered_reads : (w : Word) (ds : List ℕ) → line_of (letters w ++ 32 ∷ ds) ≡ ok_or (numbered_of w ds) (expected.Form w)
 numbered_reads w ds =
-    cond-false (is_blank (letters w ++ 32 ∷ ds)) (Ok line.Blank) (worded (word_of (parts_of (letters w ++ 32 ∷ ds)).0) (parts_of (letters w ++ 32 ∷ ds)).1) (worded-blank w (32 ∷ ds))
+    cond-false (is_blank (letters w ++ 32 ∷ ds)) (Ok line.Blank) (worded (word_of (parts_of (letters w ++ 32 ∷ ds)).0) (parts_of (letters w ++ 32 ∷ ds)).1) (worded_blank w (32 ∷ ds))
     ∙ ap (λ (o : Option (List ℕ × List ℕ)). let p : List ℕ × Option (List ℕ) = elim o [ None ↦ (letters w ++ 32 ∷ ds, None) | Some p ↦ (p.0, Some p.1) ] in worded (word_of p.0) p.1) (cut_reads 32 (letters w) ds (letters_lack w))
     ∙ ap (λ (o : Option Word). worded o (Some ds)) (word_reads w)
 

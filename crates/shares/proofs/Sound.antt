@@ -9,8 +9,8 @@ use Rattle.shares.specs.Steps.{Books, Calm, Loads, Arrives, Sends, Finishes, Res
 use Rattle.shares.proofs.Sums.{own, other, gains, loses}
 
 -- the charge of r, and how much of its interval lies above x, if it is of the flow f
-abbrev pub charge_for_lem : ℕ → Request → ℕ
-charge_for_lem f r = cond (eqb r.flow f) r.charge 0
+abbrev pub own_charge : ℕ → Request → ℕ
+own_charge f r = cond (eqb r.flow f) r.charge 0
 
 abbrev pub above_for : ℕ → ℕ → Request → ℕ
 above_for f x r = cond (eqb r.flow f) (r.end - max r.start x) 0

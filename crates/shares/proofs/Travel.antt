@@ -10,15 +10,15 @@ use Rattle.shares.specs.Events.{Sheet, Request, Event, loaded, arrived, sent, fi
 use Rattle.shares.specs.Steps.{Books, Step, Arrives, Sends, Finishes, Rests, Runs, stop, step}
 use Rattle.shares.specs.Law.{NoLoad, Waits, WaitsThroughout, sent_for, finished_for}
 use Rattle.shares.proofs.Sums.{own, other, gains, loses, sum_by_mono, sum_by_same, all_with}
-use Rattle.shares.proofs.Sound.{Sound, Apt, charge_for_lem, above_for}
+use Rattle.shares.proofs.Sound.{Sound, Apt, own_charge, above_for}
 use Rattle.shares.proofs.Known.{Known, known_step}
 
 -- the charges of f that wait, and those in the card
 abbrev W : ℕ → Books → ℕ
-W f b = sum_by (charge_for_lem f) b.waiting
+W f b = sum_by (own_charge f) b.waiting
 
 abbrev C : ℕ → Books → ℕ
-C f b = sum_by (charge_for_lem f) b.card
+C f b = sum_by (own_charge f) b.card
 
 if_own : (k f m n : ℕ) → m ≤ n → cond (eqb k f) m 0 ≤ cond (eqb k f) n 0
 if_own k f m n h = ⊎_elim (λ e. omega (arith, h, own k f m e, own k f n e)) (λ d. omega (arith, other k f m d)) (cases_eq k f)
@@ -33,11 +33,11 @@ pub placed : {s : Sheet} {es : List Event} {b : Books} (f : ℕ) → Known s es 
 placed {s} {es} {b} f k w =
     let i = k.sound.queue in
     let x : ℕ = b.time + s.threshold + s.largest f in
-    let one = sum_by_mono (λ r. cond (eqb r.flow f) 1 0) (charge_for_lem f) b.waiting (All-weaker (Apt s) _ (λ r a. if_own r.flow f 1 r.charge a.some) b.waiting i.apt) in
+    let one = sum_by_mono (λ r. cond (eqb r.flow f) 1 0) (own_charge f) b.waiting (All-weaker (Apt s) _ (λ r a. if_own r.flow f 1 r.charge a.some) b.waiting i.apt) in
     let some : 0 < W f b = omega (arith, w, one, k.sees.waiting (λ r. cond (eqb r.flow f) 1 0)) in
-    let whole = sum_by_same (above_for f b.time) (charge_for_lem f) b.waiting
+    let whole = sum_by_same (above_for f b.time) (own_charge f) b.waiting
     (all_with (λ r. b.time ≤ r.start) (Apt s) _ (λ r l a. ap (λ n. cond (eqb r.flow f) n 0) (omega (arith, l, a.ends))) b.waiting i.least i.apt) in
-    let part = sum_by_mono (above_for f x) (charge_for_lem f) b.waiting
+    let part = sum_by_mono (above_for f x) (own_charge f) b.waiting
     (All-weaker (Apt s) _ (λ r a. if_own r.flow f (r.end - max r.start x) r.charge (omega (arith, a.ends))) b.waiting i.apt) in
     record {
       waits = some;
@@ -53,31 +53,31 @@ pub record Moved (f : ℕ) (b : Books) (n d : ℕ) (b' : Books) : Type 0 where
 module _ {s : Sheet} {f : ℕ} {b b' : Books} (p : Placed s f b) where
   moved_arrived : (t : Sheet) (r : Request) → Arrives b t r b' → Moved f b 0 0 b'
   moved_arrived t r a =
-      let sum = gains (charge_for_lem f) r b.waiting b'.waiting a.waiting in
+      let sum = gains (own_charge f) r b.waiting b'.waiting a.waiting in
       record {
         sent = ⊎_elim
             (λ e. omega (arith, p.low, p.waits, sum, own r.flow f r.charge e, ap b.end e, ap b'.end e, a.tag, a.starts, a.ends))
             (λ n. omega (arith, sum, other r.flow f r.charge n, a.tags f (λ e. n (sym e))))
             (cases_eq r.flow f);
-        finished = omega (arith, sum_by-IsPermutation (charge_for_lem f) b.card b'.card a.card);
+        finished = omega (arith, sum_by-IsPermutation (own_charge f) b.card b'.card a.card);
       }
 
-  moved_sent : (t : Sheet) (r : Request) → Sends b t r b' → Moved f b (charge_for_lem f r) 0 b'
+  moved_sent : (t : Sheet) (r : Request) → Sends b t r b' → Moved f b (own_charge f r) 0 b'
   moved_sent t r a = record {
-    sent = omega (arith, loses (charge_for_lem f) r b.waiting b'.waiting a.waiting, a.tags f);
-    finished = omega (arith, gains (charge_for_lem f) r b.card b'.card a.card);
+    sent = omega (arith, loses (own_charge f) r b.waiting b'.waiting a.waiting, a.tags f);
+    finished = omega (arith, gains (own_charge f) r b.card b'.card a.card);
   }
 
-  moved_finished : (r : Request) → Finishes b r b' → Moved f b 0 (charge_for_lem f r) b'
+  moved_finished : (r : Request) → Finishes b r b' → Moved f b 0 (own_charge f r) b'
   moved_finished r a = record {
-    sent = omega (arith, sum_by-IsPermutation (charge_for_lem f) b.waiting b'.waiting a.calm.waiting, a.tags f);
-    finished = omega (arith, loses (charge_for_lem f) r b.card b'.card a.card);
+    sent = omega (arith, sum_by-IsPermutation (own_charge f) b.waiting b'.waiting a.calm.waiting, a.tags f);
+    finished = omega (arith, loses (own_charge f) r b.card b'.card a.card);
   }
 
   moved_nothing : Rests b b' → Moved f b 0 0 b'
   moved_nothing a = record {
-    sent = omega (arith, sum_by-IsPermutation (charge_for_lem f) b.waiting b'.waiting a.calm.waiting, a.tags f);
-    finished = omega (arith, sum_by-IsPermutation (charge_for_lem f) b.card b'.card a.card);
+    sent = omega (arith, sum_by-IsPermutation (own_charge f) b.waiting b'.waiting a.calm.waiting, a.tags f);
+    finished = omega (arith, sum_by-IsPermutation (own_charge f) b.card b'.card a.card);
   }
 
   moved_step : (e : Event) → NoLoad e → Step b e b' → Moved f b (sent_for f e) (finished_for f e) b'
@@ -108,5 +108,5 @@ moved_runs f es k n w (step {e = e} {es = rest} st run) =
 -- what a flow has in the card
 pub in_card_lem : {s : Sheet} {b : Books} (f : ℕ) → Sound s b → C f b ≤ s.slots * s.largest f
 in_card_lem {s} {b} f i =
-    let each = All-weaker (Apt s) (λ r. charge_for_lem f r ≤ s.largest f) (λ r a. ⊎_elim (λ e. omega (arith, own r.flow f r.charge e, ap s.largest e, a.most)) (λ n. omega (arith, other r.flow f r.charge n)) (cases_eq r.flow f)) b.card i.card in
-    omega (arith, sum_by_le (charge_for_lem f) (s.largest f) b.card each, mul-le-mul_right (s.largest f) i.room)
+    let each = All-weaker (Apt s) (λ r. own_charge f r ≤ s.largest f) (λ r a. ⊎_elim (λ e. omega (arith, own r.flow f r.charge e, ap s.largest e, a.most)) (λ n. omega (arith, other r.flow f r.charge n)) (cases_eq r.flow f)) b.card i.card in
+    omega (arith, sum_by_le (own_charge f) (s.largest f) b.card each, mul-le-mul_right (s.largest f) i.room)

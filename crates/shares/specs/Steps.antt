@@ -19,7 +19,7 @@ pub record Clock (b b' : Books) : Type 0 where
   pub onward : b.time ≤ b'.time
   pub least : AllByRecursion (λ r. b'.time ≤ r.start) b'.waiting
 
--- The same requests wait: virtual time stays where it is, or nothing waits. (`Shuffled` lists have the same elements, in any order.)
+-- The same requests wait: virtual time stays where it is, or nothing waits. (`IsPermutation`: two lists have the same elements, in any order.)
 pub record Calm (b b' : Books) : Type 0 where
   pub waiting : IsPermutation b.waiting b'.waiting
   pub onward : b.time ≤ b'.time

@@ -1,5 +1,5 @@
 -- The eight lanes, how far apart they are, and sets of them: a set is a number with bit k for lane k.
-use Rattle.std.specs.Prelude.{◌≡◌, ℕ, zero, suc, ◌+◌, ◌/◌, ◌%◌, ◌^◌, ◌<◌, ◌≤◌, cond, List, [], ◌∷◌, ◌==◌, slice_index, slice_index_or}
+use Rattle.std.specs.Prelude.{◌≡◌, ℕ, zero, suc, ◌+◌, ◌/◌, ◌%◌, ◌^◌, ◌<◌, ◌≤◌, cond, List, [], ◌∷◌, ◌==◌, slice_index, slice_index_or, Option, MatchOption}
 
 -- lane k is in the set
 abbrev pub In : ℕ → ℕ → Type 0
@@ -41,10 +41,16 @@ pub record Nearest (row : List ℕ) (ready k : ℕ) : Type 0 where
   pub none_nearer : (j : ℕ) → j < 8 → In ready j → slice_index row k ≤ slice_index row j
   pub first : (j : ℕ) → j < k → In ready j → slice_index row k < slice_index row j
 
--- after the lanes below n: near holds those that are ready and best far away, and none of these is nearer
-pub record Sought (row : List ℕ) (ready n best near : ℕ) : Type 0 where
-  pub small : near < 2 ^ n
-  pub level : (j : ℕ) → j < n → In near j → In ready j × (slice_index row j ≡ best)
-  pub nearest : (j : ℕ) → j < n → In ready j → best ≤ slice_index row j
-  pub whole : (j : ℕ) → j < n → In ready j → slice_index row j ≡ best → In near j
-  pub fresh : near ≡ 0 → (best ≡ 255) × ((j : ℕ) → j < n → In ready j → ⊥)
+-- k is the nearest of the ready lanes that are not among the rest, best far away, and the rest have higher numbers
+pub record Chosen (row : List ℕ) (ready rest k best : ℕ) : Type 0 where
+  pub within : k < 8
+  pub ready_k : In ready k
+  pub far : best ≡ slice_index row k
+  pub before : (j : ℕ) → j < 8 → In rest j → k < j
+  pub none_nearer : (j : ℕ) → j < 8 → In ready j → (In rest j → ⊥) → slice_index row k ≤ slice_index row j
+  pub first : (j : ℕ) → j < k → In ready j → slice_index row k < slice_index row j
+
+-- the rest of the ready lanes is still to be visited; of the others one is chosen, with how far it is
+pub record Sought (row : List ℕ) (ready rest : ℕ) (nearest : Option (ℕ × ℕ)) : Type 0 where
+  pub among : (j : ℕ) → j < 8 → In rest j → In ready j
+  pub chosen : MatchOption nearest (rest ≡ ready) (λ p. Chosen row ready rest p.0 p.1)

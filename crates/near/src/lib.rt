@@ -18,14 +18,6 @@ const DISTANCE: [[u8; 8]; 8] = [
     [2, 2, 2, 2, 1, 1, 1, 0],
 ];
 
-// Whether lane k is in the set.
-fn has(set: u8, k: u32) -> bool
-    requires { k < 8 }
-    ensures { result ≡ ((set / 2 ^ k % 2) == 1) }
-{
-    (set >> k) & 1 == 1
-}
-
 /// How many lanes are in the set.
 pub fn how_many(ready: u8) -> u32
     ensures { result ≡ members ready 8 }
@@ -33,39 +25,29 @@ pub fn how_many(ready: u8) -> u32
     ready.count_ones()
 }
 
-// The lanes of the set that are nearest by the row, and the lowest of them.
+// The nearest lane of the set by the row, and of several as near the lowest. The lanes are visited from the lowest up, so a later one has to be nearer.
 fn choose(row: [u8; 8], ready: u8) -> Option<u32>
     ensures { MatchOption result (ready ≡ 0) (λ k. Nearest row ready k) }
 {
-    let mut best = u8::MAX;
-    let mut near: u8 = 0;
-    for k in 0..8 {
-        if has(ready, k) {
-            let far = row[k as usize];
-            if far < best {
-                best = far;
-                near = 1 << k;
-            } else if far == best {
-                near |= 1 << k;
-            }
+    let mut nearest: Option<(u32, u8)> = None;
+    let mut rest = ready;
+    while rest != 0 {
+        let k = rest.trailing_zeros();
+        let far = row[k as usize];
+        if nearest.is_none_or(|(_, best)| far < best) {
+            nearest = Some((k, far));
         }
+        rest &= !(1 << k);
     }
-    if near == 0 {
-        None
-    } else {
-        Some(near.trailing_zeros())
-    }
+    nearest.map(|(k, _)| k)
 }
 
 /// The ready lane that is nearest to `lane`, and of several as near the one with the lowest number; `None` where none is ready, or there is no such lane.
 pub fn nearest(lane: u32, ready: u8) -> Option<u32>
     ensures { MatchOption result (lane < 8 → ready ≡ 0) (λ k. (lane < 8) × Nearest (slice_index_or table lane []) ready k) }
 {
-    if lane >= 8 {
-        return None;
-    }
-    let row = DISTANCE[lane as usize];
-    choose(row, ready)
+    let row = DISTANCE.get(lane as usize)?;
+    choose(*row, ready)
 }
 
 /// The table, which is the code's, is the rule: 0 for the lane itself, 1 within the same four lanes, and else 2.

@@ -1,5 +1,8 @@
 use Rattle.near.specs.Lanes.{Sought}
 use Rattle.near.proofs.choose.Given as goal
 
-abbrev pub invariant-loop-k : goal.invariant-loop-k
-invariant-loop-k l = Sought l.row l.ready l.k l.best l.near
+abbrev pub invariant-loop-rest : goal.invariant-loop-rest
+invariant-loop-rest l = Sought l.row l.ready l.rest l.nearest
+
+abbrev pub decreases-loop-rest : goal.decreases-loop-rest
+decreases-loop-rest l = l.rest

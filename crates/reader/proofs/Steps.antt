@@ -1,8 +1,10 @@
 -- The steps of the loops over a line's bytes.
-use Rattle.std.proofs.Common.{◌≡◌, ℕ, ◌+◌, ◌-◌, ◌*◌, ◌^◌, ◌<◌, ◌≤◌, not, ◌&&◌, eqb, ltb, ◌⊎◌, List, [], ◌∷◌, length, get_or, take, drop, Some, None, sym, refl, ap, ◌∙◌, subst, ⊎_elim, pow-suc, add-one, arith}
+use Rattle.std.proofs.Common.{◌≡◌, ℕ, ◌+◌, ◌-◌, ◌*◌, ◌^◌, ◌<◌, ◌≤◌, not, ◌&&◌, eqb, ltb, ◌⊎◌, List, [], ◌∷◌, length, get_or, take, drop, Some, None, Option, cond, sym, refl, ap, ◌∙◌, subst, ⊎_elim, pow-suc, add-one, add_comm, arith}
 use Rattle.std.proofs.lemmas.List.{at_drop_more, at_drop_all, take_rest, length-take-le, drop-drop}
 use Rattle.std.proofs.lemmas.Bool.{cond-true, cond-false, cond_both, ne_eqb, eq-eqb, le-leb, lt-leb, le-ltb, lt-ltb, cond_below, cases_lt, and_from, and_left, and_right, not_from_false}
 use Rattle.std.specs.Option.{option_map}
+use Rattle.std.specs.List.{position, position_or_len}
+use Rattle.std.proofs.lemmas.List.Recursion.{is_position_or_len}
 use Rattle.reader.specs.Lines.{before, cut_at, is_digit, digits_from, sized, padded, number_of, lettered_of}
 
 pub before_on : (b : ℕ) (xs : List ℕ) (i : ℕ) → i < length xs → (get_or xs i 0 ≡ b → ⊥) → before b (drop i xs) ≡ before b (drop (i + 1) xs) + 1
@@ -36,6 +38,23 @@ number_is ds lo hi o =
 -- one more digit has room
 pub digit_fits : (n i d : ℕ) → n < 10 ^ i → d ≤ 9 → n * 10 + d < 10 ^ (i + 1)
 digit_fits n i d h k = rw (add-one, pow-suc) (omega arith)
+
+-- `before` is the library's word for the first place that passes a test
+before_is : (b : ℕ) (xs : List ℕ) → position_or_len (λ x. eqb x b) xs ≡ before b xs
+before_is b xs = sym (is_position_or_len (before b) (λ x. eqb x b) refl (λ x ys. ap (cond (eqb x b) 0) (add_comm (before b ys) 1)) xs)
+
+-- a text is cut where the first b is found
+cut_of : (b : ℕ) (s : List ℕ) → cut_at b s ≡ option_map (λ i. (take i s, drop (i + 1) s)) (position (λ x. eqb x b) s)
+cut_of b s =
+    rw (before_is b s) (
+    cond_both (ltb (before b s) (length s)) (Some (before b s)) None (λ o. cut_at b s ≡ option_map (λ i. (take i s, drop (i + 1) s)) o) (λ h. cond-true _ _ _ h) (λ h. cond-false _ _ _ h)
+    )
+
+pub cut_missing : (b : ℕ) (s : List ℕ) (r : Option ℕ) → r ≡ position (λ x. eqb x b) s → r ≡ None → None ≡ cut_at b s
+cut_missing b s r e n = sym (cut_of b s ∙ ap (option_map (λ i. (take i s, drop (i + 1) s))) (sym e ∙ n))
+
+pub cut_found : (b : ℕ) (s : List ℕ) (r : Option ℕ) (i : ℕ) → r ≡ position (λ x. eqb x b) s → r ≡ Some i → Some (take i s, take (length s - (i + 1)) (drop (i + 1) s)) ≡ cut_at b s
+cut_found b s r i e n = rw take_rest (sym (cut_of b s ∙ ap (option_map (λ j. (take j s, drop (j + 1) s))) (sym e ∙ n)))
 
 pub cut_here : (b : ℕ) (s : List ℕ) (i : ℕ) → i ≡ before b s → i < length s → Some (take (i - 0) s, take (length s - (i + 1)) (drop (i + 1) s)) ≡ cut_at b s
 cut_here b s i e h =

@@ -8,6 +8,7 @@ ghost use Rattle.reader.specs.Grammar.{GrammarLaws, NoText, TextOnlyOf};
 ghost use Rattle.reader.specs.Views.{Reads};
 
 mod cursor;
+pub mod cut;
 mod draft;
 pub mod fault;
 mod line;

@@ -1,34 +1,11 @@
 // What one line says.
 ghost use Rattle.std.specs.Prelude.{◌≡◌, ◌≤◌, IfOk, ◌==◌};
-ghost use Rattle.std.specs.Option.{option_map};
-ghost use Rattle.reader.specs.Lines.{before, count_of, cut_at, earlier, letter_of, lettered_of, line_into, most_of, number_of, pair_of, parameter_of};
+ghost use Rattle.reader.specs.Lines.{count_of, earlier, letter_of, lettered_of, line_into, most_of, number_of, pair_of, parameter_of};
 ghost use Rattle.reader.specs.Views.{Adds, draft_of};
 
+use crate::cut::cut;
 use crate::draft::{Draft, Parameter, Section};
 use crate::fault::Refusal;
-
-// How many bytes stand before the first `mark`.
-fn run_before(s: &[u8], mark: u8) -> usize
-    ensures { result ≡ before mark s.now }
-{
-    let mut i = 0;
-    while i < s.len() && s[i] != mark {
-        i += 1;
-    }
-    i
-}
-
-// The parts before and after the first `mark`.
-pub(crate) fn cut(s: &[u8], mark: u8) -> Option<(&[u8], &[u8])>
-    ensures { option_map (λ p. (p.0.now, p.1.now)) result ≡ cut_at mark s.now }
-{
-    let i = run_before(s, mark);
-    if i < s.len() {
-        Some((&s[0..i], &s[i + 1..]))
-    } else {
-        None
-    }
-}
 
 // A number: 1 to 10 decimal digits, the first of several not 0.
 fn number(s: &[u8]) -> Option<u64>

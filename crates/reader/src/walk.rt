@@ -7,9 +7,10 @@ ghost use Rattle.reader.specs.Format.{fault, line_as, section, sheet_from};
 ghost use Rattle.reader.specs.Views.{Gives, Takes, draft_of, rest_of};
 
 use crate::cursor::Cursor;
+use crate::cut::cut;
 use crate::draft::{Draft, Section};
 use crate::fault::{Refusal, SheetFault};
-use crate::line::{add_line, count_of, cut};
+use crate::line::{add_line, count_of};
 use sheet::shape::Sheet;
 
 // Says at which line a refusal is.

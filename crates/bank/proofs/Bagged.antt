@@ -142,8 +142,8 @@ placed_taken banks f below placed k u other =
 
 -- What the rules come to, by what is known of the tests.
 
-pub submit_held : (banks : List (List Job)) (t n : ℕ) → length (commands_all banks) < 32 → among t (commands_all banks) ≡ true → submit_rule banks t n ≡ (Err HeldAlready, banks)
-submit_held banks t n room held = rw (lt-ltb (length (commands_all banks)) 32 room, held)
+pub submit_held : (banks : List (List Job)) (c : Command) → length (commands_all banks) < 32 → among c.ticket (commands_all banks) ≡ true → submit_rule banks c ≡ (Err HeldAlready, banks)
+submit_held banks c room held = rw (lt-ltb (length (commands_all banks)) 32 room, held)
 
-pub submit_put : (banks : List (List Job)) (t n : ℕ) → length (commands_all banks) < 32 → among t (commands_all banks) ≡ false → submit_rule banks t n ≡ (Ok tt, put_in banks (t % 4) (fresh (command t n)))
-submit_put banks t n room new = rw (lt-ltb (length (commands_all banks)) 32 room, new)
+pub submit_put : (banks : List (List Job)) (c : Command) → length (commands_all banks) < 32 → among c.ticket (commands_all banks) ≡ false → submit_rule banks c ≡ (Ok tt, put_in banks (c.ticket % 4) (fresh c))
+submit_put banks c room new = rw (lt-ltb (length (commands_all banks)) 32 room, new)

@@ -1,8 +1,9 @@
 -- What a bank card answers, and its banks then.
 use Rattle.std.specs.Prelude.{ℕ, ◌+◌, ◌%◌, cond, List, [], ◌∷◌, ◌++◌, map, length, Some, None, Ok, Err, Option, Result, nat_lt, slice_index_or, slice_set}
+use Rattle.card.specs.declared.Command.{Command}
 use Rattle.card.specs.declared.CardFault.{CardFault}
 use Rattle.card.specs.declared.CardFault.TheVariants.{Full, HeldAlready}
-use Rattle.card.specs.Commands.{among, command}
+use Rattle.card.specs.Commands.{among}
 use Rattle.ring.specs.Rings.{head_of, tail_of}
 use Rattle.bank.specs.Jobs.{Job, commands_all, fresh, lowered, ready}
 
@@ -11,8 +12,8 @@ abbrev pub put_in : List (List Job) → ℕ → Job → List (List Job)
 put_in banks b j = slice_set banks b (slice_index_or banks b [] ++ j ∷ [])
 
 -- submit: with 32 commands it is full; else a ticket that is held is refused; else the command goes to bank ticket mod 4
-abbrev pub submit_rule : List (List Job) → ℕ → ℕ → Result (Unit {0}) CardFault × List (List Job)
-submit_rule banks t n = cond (nat_lt (length (commands_all banks)) 32) (cond (among t (commands_all banks)) (Err HeldAlready, banks) (Ok tt, put_in banks (t % 4) (fresh (command t n)))) (Err Full, banks)
+abbrev pub submit_rule : List (List Job) → Command → Result (Unit {0}) CardFault × List (List Job)
+submit_rule banks c = cond (nat_lt (length (commands_all banks)) 32) (cond (among c.ticket (commands_all banks)) (Err HeldAlready, banks) (Ok tt, put_in banks (c.ticket % 4) (fresh c))) (Err Full, banks)
 
 -- the first bank, counted from b, whose oldest command has nothing left to do
 abbrev pub first_ready : ℕ → List (List Job) → Option ℕ

@@ -25,25 +25,25 @@ impl BankCard {
 impl Card for BankCard {
     const DEPTH: usize = 32;
 
-    ghost depth = { 32 };
+    ghost DEPTH = { 32 };
 
     ghost held = { λ c. commands_all (view c) };
 
     ghost finishes = { λ c r after. (r ≡ (finish_rule (view c)).0) × (view after ≡ (finish_rule (view c)).1) };
 
-    fn submit(&mut self, ticket: u32, sectors: u16) -> Result<(), CardFault>
-        ensures card { Submitted 32 (commands_all (view self.old)) ticket sectors result (commands_all (view self.new)) }
-        ensures answer { result ≡ (submit_rule (view self.old) ticket sectors).0 }
-        ensures banks { view self.new ≡ (submit_rule (view self.old) ticket sectors).1 }
+    fn submit(&mut self, command: Command) -> Result<(), CardFault>
+        ensures card { Submitted 32 (commands_all (view self.old)) command result (commands_all (view self.new)) }
+        ensures answer { result ≡ (submit_rule (view self.old) command).0 }
+        ensures banks { view self.new ≡ (submit_rule (view self.old) command).1 }
     {
         if self.count >= Self::DEPTH {
             return Err(CardFault::Full);
         }
-        let b = bank_of(ticket);
-        if self.banks.contains(b, ticket) {
+        let b = bank_of(command.ticket);
+        if self.banks.contains(b, command.ticket) {
             return Err(CardFault::HeldAlready);
         }
-        self.banks.push(b, Command { ticket, sectors });
+        self.banks.push(b, command);
         self.count += 1;
         Ok(())
     }
@@ -62,10 +62,6 @@ impl Card for BankCard {
 
     fn count(&self) -> usize {
         self.count
-    }
-
-    fn capacity() -> usize {
-        Self::DEPTH
     }
 }
 

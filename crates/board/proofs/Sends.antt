@@ -2,7 +2,7 @@
 use Rattle.std.proofs.Common.{◌≡◌, ℕ, suc, ◌<◌, ◌||◌, eqb, ltb, leb, List, [], ◌∷◌, length, get_or, Some, Ok, Err, Option, Result, sym, refl, ap, ◌∙◌, subst, ⊎_elim, arith}
 use Rattle.std.proofs.lemmas.Bool.{cases_Bool, cond-true, cond-false, cond_both, leb-false, lt-leb, lt-ltb, le-leb, ne_eqb}
 use Rattle.heap.proofs.Sorting.{length-insert}
-use Rattle.card.specs.Commands.{Submitted, among}
+use Rattle.card.specs.Commands.{Submitted, among, command}
 use Rattle.card.specs.declared.Command.{Command}
 use Rattle.card.specs.declared.CardFault.{CardFault}
 use Rattle.card.specs.declared.CardFault.TheVariants.{Full, HeldAlready}
@@ -66,13 +66,13 @@ kicks depth held s l k r rest there some room near lane =
     go (j ∷ js) e = let same : j ≡ k = cc in ap (λ i. hand_first depth held s i (lane_at s i)) same
 
 -- the card took the command, or refused it
-pub hands : (depth : ℕ) (before after : List Command) (s s' : State) (k : ℕ) (r : Request) (rest : List Request) → Submitted depth before r.ticket r.sectors (Ok tt) after → lane_at s k ≡ r ∷ rest → s' ≡ moved s k → Done (Ok (Sent r.ticket r.flow r.charge)) s' before after (handed s k r rest (submits depth before r.ticket))
+pub hands : (depth : ℕ) (before after : List Command) (s s' : State) (k : ℕ) (r : Request) (rest : List Request) → Submitted depth before (command r.ticket r.sectors) (Ok tt) after → lane_at s k ≡ r ∷ rest → s' ≡ moved s k → Done (Ok (Sent r.ticket r.flow r.charge)) s' before after (handed s k r rest (submits depth before r.ticket))
 hands depth before after s s' k r rest sub lane is =
     subst (λ v. Done (Ok (Sent r.ticket r.flow r.charge)) s' before after (handed s k r rest v))
     (sym (cond-false (leb depth (length before)) _ _ (lt-leb depth (length before) sub.0) ∙ cond-false (among r.ticket before) _ _ sub.1))
     (record { says = refl; books = is ∙ ap (moved_from s k) lane; card = sub.2 })
 
-pub refuses : (depth : ℕ) (before after : List Command) (s : State) (k : ℕ) (r : Request) (rest : List Request) (fault : CardFault) → Submitted depth before r.ticket r.sectors (Err fault) after → Done (Err (ByCard fault)) s before after (handed s k r rest (submits depth before r.ticket))
+pub refuses : (depth : ℕ) (before after : List Command) (s : State) (k : ℕ) (r : Request) (rest : List Request) (fault : CardFault) → Submitted depth before (command r.ticket r.sectors) (Err fault) after → Done (Err (ByCard fault)) s before after (handed s k r rest (submits depth before r.ticket))
 refuses depth before after s k r rest Full sub =
     subst (λ v. Done (Err (ByCard Full)) s before after (handed s k r rest v)) (sym (cond-true (leb depth (length before)) _ _ (le-leb depth (length before) sub.0))) (record { says = refl; books = refl; card = sub.1 })
 refuses depth before after s k r rest HeldAlready sub =

@@ -118,20 +118,20 @@ tally_some t cs h = some (tally t cs) (sym (among-tally t cs) ∙ h)
 
 -- What a call of submit or finish adds and takes away.
 
-pub submitted_sum : (g : Command → ℕ) (depth : ℕ) (before : List Command) (t n : ℕ) (r : Result (Unit {0}) CardFault) (after : List Command) → Submitted depth before t n r after → sum_by g after ≡ cond (is_ok r) (g (command t n)) 0 + sum_by g before
-submitted_sum g depth before t n (Ok _) after s = more_sum g (command t n) before after s.2
-submitted_sum g depth before t n (Err Full) after s = same_sum g before after s.1 ∙ sym (zero-add (sum_by g before))
-submitted_sum g depth before t n (Err HeldAlready) after s = same_sum g before after s.2 ∙ sym (zero-add (sum_by g before))
+pub submitted_sum : (g : Command → ℕ) (depth : ℕ) (before : List Command) (c : Command) (r : Result (Unit {0}) CardFault) (after : List Command) → Submitted depth before c r after → sum_by g after ≡ cond (is_ok r) (g c) 0 + sum_by g before
+submitted_sum g depth before c (Ok _) after s = more_sum g c before after s.2
+submitted_sum g depth before c (Err Full) after s = same_sum g before after s.1 ∙ sym (zero-add (sum_by g before))
+submitted_sum g depth before c (Err HeldAlready) after s = same_sum g before after s.2 ∙ sym (zero-add (sum_by g before))
 
-pub submitted_length : (depth : ℕ) (before : List Command) (t n : ℕ) (r : Result (Unit {0}) CardFault) (after : List Command) → Submitted depth before t n r after → length after ≡ length before + cond (is_ok r) 1 0
-submitted_length depth before t n (Ok _) after s = more_length (command t n) before after s.2
-submitted_length depth before t n (Err Full) after s = let e = same_length before after s.1 in omega arith
-submitted_length depth before t n (Err HeldAlready) after s = let e = same_length before after s.2 in omega arith
+pub submitted_length : (depth : ℕ) (before : List Command) (c : Command) (r : Result (Unit {0}) CardFault) (after : List Command) → Submitted depth before c r after → length after ≡ length before + cond (is_ok r) 1 0
+submitted_length depth before c (Ok _) after s = more_length c before after s.2
+submitted_length depth before c (Err Full) after s = let e = same_length before after s.1 in omega arith
+submitted_length depth before c (Err HeldAlready) after s = let e = same_length before after s.2 in omega arith
 
-pub submitted_tally : (u depth : ℕ) (before : List Command) (t n : ℕ) (r : Result (Unit {0}) CardFault) (after : List Command) → Submitted depth before t n r after → tally u after ≡ cond (is_ok r) (cond (eqb t u) 1 0) 0 + tally u before
-submitted_tally u depth before t n (Ok _) after s = more_tally u (command t n) before after s.2
-submitted_tally u depth before t n (Err Full) after s = same_tally u before after s.1 ∙ sym (zero-add (tally u before))
-submitted_tally u depth before t n (Err HeldAlready) after s = same_tally u before after s.2 ∙ sym (zero-add (tally u before))
+pub submitted_tally : (u depth : ℕ) (before : List Command) (c : Command) (r : Result (Unit {0}) CardFault) (after : List Command) → Submitted depth before c r after → tally u after ≡ cond (is_ok r) (cond (eqb c.ticket u) 1 0) 0 + tally u before
+submitted_tally u depth before c (Ok _) after s = more_tally u c before after s.2
+submitted_tally u depth before c (Err Full) after s = same_tally u before after s.1 ∙ sym (zero-add (tally u before))
+submitted_tally u depth before c (Err HeldAlready) after s = same_tally u before after s.2 ∙ sym (zero-add (tally u before))
 
 pub finished_length : (before : List Command) (r : Option (ℕ × ℕ)) (after : List Command) → Finished before r after → length before ≡ length after + cond (is_some r) 1 0
 finished_length before None after f = let e = same_length before after f in omega arith

@@ -27,11 +27,11 @@ Same before after = IsPermutation before after
 abbrev pub More : Command → List Command → List Command → Type 0
 More c few many = IsPermutation (c ∷ few) many
 
--- what submit of ticket t with length n does: full is asked first, and what is refused changes nothing
-abbrev pub Submitted : ℕ → List Command → ℕ → ℕ → Result (Unit {0}) CardFault → List Command → Type 0
-Submitted depth before t n (Ok _) after = (length before < depth) × (among t before ≡ false) × More (command t n) before after
-Submitted depth before t n (Err Full) after = (depth ≤ length before) × Same before after
-Submitted depth before t n (Err HeldAlready) after = (length before < depth) × (among t before ≡ true) × Same before after
+-- what submit of a command does: full is asked first, and what is refused changes nothing
+abbrev pub Submitted : ℕ → List Command → Command → Result (Unit {0}) CardFault → List Command → Type 0
+Submitted depth before c (Ok _) after = (length before < depth) × (among c.ticket before ≡ false) × More c before after
+Submitted depth before c (Err Full) after = (depth ≤ length before) × Same before after
+Submitted depth before c (Err HeldAlready) after = (length before < depth) × (among c.ticket before ≡ true) × Same before after
 
 -- what finish does: nothing, or one command with the ticket that it answers is gone
 abbrev pub Finished : List Command → Option (ℕ × ℕ) → List Command → Type 0

@@ -27,8 +27,8 @@ pub trait Card {
     /// How many commands this kind of card can hold.
     const DEPTH: usize;
 
-    /// The depth, for contracts.
-    ghost depth: { ℕ };
+    /// The same number, for contracts.
+    ghost DEPTH: { ℕ };
 
     /// The commands held, with repeats; their order in the list means nothing.
     ghost held: { Self → List Command };
@@ -37,8 +37,8 @@ pub trait Card {
     ghost finishes: { Self → Option (ℕ × ℕ) → Self → Type 0 };
 
     /// Takes a command, unless the card is full (asked first) or holds its ticket.
-    fn submit(&mut self, ticket: u32, sectors: u16) -> Result<(), CardFault>
-        ensures { Submitted depth (held self.old) ticket sectors result (held self.new) };
+    fn submit(&mut self, command: Command) -> Result<(), CardFault>
+        ensures { Submitted DEPTH (held self.old) command result (held self.new) };
 
     /// Answers nothing, or the ticket of a command that was held with a status byte; that command is then gone.
     fn finish(&mut self) -> Option<(u32, u8)>
@@ -48,10 +48,6 @@ pub trait Card {
     /// How many commands are held.
     fn count(&self) -> usize
         ensures { result ≡ length (held self.now) };
-
-    /// Answers `DEPTH`, which a contract cannot name.
-    fn capacity() -> usize
-        ensures { result ≡ depth };
 }
 
 /// Asks a card `times` times to finish, and answers how many commands it finished.

@@ -9,3 +9,8 @@ mod grants;
 mod queues;
 #[cfg(test)]
 mod trials;
+
+#[cfg(test)]
+fn command(ticket: u32, sectors: u16) -> card::Command {
+    card::Command { ticket, sectors }
+}

@@ -1,4 +1,5 @@
 // The queue card: first in, first out, 16 at most.
+use crate::command;
 use card::{Card, CardFault};
 use queue::QueueCard;
 
@@ -6,13 +7,13 @@ use queue::QueueCard;
 fn oldest_first(rt: HostRuntime) {
     let mut card = QueueCard::new();
     assert_eq!(rt; card.finish(), None);
-    assert_eq!(rt; card.submit(7, 5), Ok(()));
-    assert_eq!(rt; card.submit(9, 65535), Ok(()));
-    assert_eq!(rt; card.submit(7, 1), Err(CardFault::HeldAlready));
+    assert_eq!(rt; card.submit(command(7, 5)), Ok(()));
+    assert_eq!(rt; card.submit(command(9, 65535)), Ok(()));
+    assert_eq!(rt; card.submit(command(7, 1)), Err(CardFault::HeldAlready));
     assert_eq!(rt; card.count(), 2);
     assert_eq!(rt; card.finish(), Some((7, 0)));
     // Ticket 7 may come again.
-    assert_eq!(rt; card.submit(7, 0), Ok(()));
+    assert_eq!(rt; card.submit(command(7, 0)), Ok(()));
     assert_eq!(rt; card.finish(), Some((9, 0)));
     assert_eq!(rt; card.finish(), Some((7, 0)));
     assert_eq!(rt; card.finish(), None);
@@ -23,15 +24,15 @@ fn oldest_first(rt: HostRuntime) {
 fn full_is_asked_first(rt: HostRuntime) {
     let mut card = QueueCard::new();
     for ticket in 0..16 {
-        assert_eq!(rt; card.submit(ticket, 1), Ok(()));
+        assert_eq!(rt; card.submit(command(ticket, 1)), Ok(()));
     }
     assert_eq!(rt; card.count(), <QueueCard as Card>::DEPTH);
-    assert_eq!(rt; card.submit(16, 1), Err(CardFault::Full));
-    assert_eq!(rt; card.submit(3, 1), Err(CardFault::Full));
+    assert_eq!(rt; card.submit(command(16, 1)), Err(CardFault::Full));
+    assert_eq!(rt; card.submit(command(3, 1)), Err(CardFault::Full));
     assert_eq!(rt; card.finish(), Some((0, 0)));
-    assert_eq!(rt; card.submit(3, 1), Err(CardFault::HeldAlready));
-    assert_eq!(rt; card.submit(0, 1), Ok(()));
-    assert_eq!(rt; card.submit(17, 1), Err(CardFault::Full));
+    assert_eq!(rt; card.submit(command(3, 1)), Err(CardFault::HeldAlready));
+    assert_eq!(rt; card.submit(command(0, 1)), Ok(()));
+    assert_eq!(rt; card.submit(command(17, 1)), Err(CardFault::Full));
 }
 
 // More commands than places pass through, with five of them held at a time.
@@ -39,11 +40,14 @@ fn full_is_asked_first(rt: HostRuntime) {
 fn round_the_places(rt: HostRuntime) {
     let mut card = QueueCard::new();
     for ticket in 0..5 {
-        assert_eq!(rt; card.submit(ticket, 1), Ok(()));
+        assert_eq!(rt; card.submit(command(ticket, 1)), Ok(()));
     }
     for ticket in 5..60 {
-        assert_eq!(rt; card.submit(ticket, 1), Ok(()));
-        assert_eq!(rt; card.submit(ticket - 5, 1), Err(CardFault::HeldAlready));
+        assert_eq!(rt; card.submit(command(ticket, 1)), Ok(()));
+        assert_eq!(rt;
+            card.submit(command(ticket - 5, 1)),
+            Err(CardFault::HeldAlready)
+        );
         assert_eq!(rt; card.finish(), Some((ticket - 5, 0)));
         assert_eq!(rt; card.count(), 5);
     }

@@ -3,7 +3,7 @@ ghost use Rattle.std.specs.Prelude.{◌≡◌};
 ghost use Rattle.card.specs.Commands.{Submitted};
 ghost use Rattle.cards_for_tests.specs.Choices.{Late};
 
-use card::{Card, CardFault};
+use card::{Card, CardFault, Command};
 
 /// Any card, which is asked to finish only each time after it has answered nothing `pause` times.
 #[derive(Drop)]
@@ -29,17 +29,17 @@ impl<C: Card> LateCard<C> {
 impl<C: Card> Card for LateCard<C> {
     const DEPTH: usize = C::DEPTH;
 
-    ghost depth = { C.Card.depth };
+    ghost DEPTH = { C.Card.DEPTH };
 
     ghost held = { λ l. C.Card.held l.card };
 
     ghost finishes = { λ l r after. Late C.Card.finishes l.left l.pause l.card r after.card after.left × (after.pause ≡ l.pause) };
 
-    fn submit(&mut self, ticket: u32, sectors: u16) -> Result<(), CardFault>
-        ensures card { Submitted C.Card.depth (C.Card.held self.old.card) ticket sectors result (C.Card.held self.new.card) }
+    fn submit(&mut self, command: Command) -> Result<(), CardFault>
+        ensures card { Submitted C.Card.DEPTH (C.Card.held self.old.card) command result (C.Card.held self.new.card) }
         ensures pause { (self.new.pause ≡ self.old.pause) × (self.new.left ≡ self.old.left) }
     {
-        self.card.submit(ticket, sectors)
+        self.card.submit(command)
     }
 
     fn finish(&mut self) -> Option<(u32, u8)> {
@@ -53,9 +53,5 @@ impl<C: Card> Card for LateCard<C> {
 
     fn count(&self) -> usize {
         self.card.count()
-    }
-
-    fn capacity() -> usize {
-        C::capacity()
     }
 }

@@ -1,6 +1,6 @@
 // A card that finishes the newest command first.
 ghost use Rattle.std.specs.Prelude.{◌≡◌, ◌≤◌, [], ◌∷◌, ◌++◌, length, take, is_ok, if◌then◌else◌};
-ghost use Rattle.card.specs.Commands.{Submitted, among, command};
+ghost use Rattle.card.specs.Commands.{Submitted, among};
 ghost use Rattle.cards_for_tests.specs.Choices.{Newest};
 
 use card::{Card, CardFault, Command};
@@ -32,23 +32,23 @@ impl NewestCard {
 impl Card for NewestCard {
     const DEPTH: usize = 32;
 
-    ghost depth = { 32 };
+    ghost DEPTH = { 32 };
 
     ghost held = { λ c. take c.len c.commands };
 
     ghost finishes = { λ c r after. Newest (take c.len c.commands) r (take after.len after.commands) };
 
-    fn submit(&mut self, ticket: u32, sectors: u16) -> Result<(), CardFault>
-        ensures card { Submitted 32 (take self.old.len self.old.commands) ticket sectors result (take self.new.len self.new.commands) }
-        ensures order { take self.new.len self.new.commands ≡ take self.old.len self.old.commands ++ (if is_ok result then command ticket sectors ∷ [] else []) }
+    fn submit(&mut self, command: Command) -> Result<(), CardFault>
+        ensures card { Submitted 32 (take self.old.len self.old.commands) command result (take self.new.len self.new.commands) }
+        ensures order { take self.new.len self.new.commands ≡ take self.old.len self.old.commands ++ (if is_ok result then command ∷ [] else []) }
     {
         if self.len >= Self::DEPTH {
             return Err(CardFault::Full);
         }
-        if has(&self.commands[0..self.len], ticket) {
+        if has(&self.commands[0..self.len], command.ticket) {
             return Err(CardFault::HeldAlready);
         }
-        self.commands[self.len] = Command { ticket, sectors };
+        self.commands[self.len] = command;
         self.len += 1;
         Ok(())
     }
@@ -64,10 +64,6 @@ impl Card for NewestCard {
 
     fn count(&self) -> usize {
         self.len
-    }
-
-    fn capacity() -> usize {
-        Self::DEPTH
     }
 }
 

@@ -163,11 +163,11 @@ abbrev Next : Option share.Sheet → share.Event → State → step.Books → Ty
 Next o e s' c = (c' : step.Books) × step.Step c e c' × At (sheet_after o e) s' c'
 
 module _ {C : Type 0} (cards : Ghosts C) where
-  moves : (s s' : State) (c c' : C) (call : Call) (a : Answer) → Sound s → Fair s → Step cards.depth cards.held cards.finishes s c call a s' c' → MovesSo s (told call a) s'
-  moves s s' c c' (Load sheet) a k fair st = to s (Load sheet) st.0 st.1 (load_moves s sheet (load_rule cards.depth (cards.held c) s (content_of sheet)).0 (load_rule cards.depth (cards.held c) s (content_of sheet)).1 (loaded s sheet (Some (shares_of s.sheet)) cards.depth (cards.held c)))
+  moves : (s s' : State) (c c' : C) (call : Call) (a : Answer) → Sound s → Fair s → Step cards.DEPTH cards.held cards.finishes s c call a s' c' → MovesSo s (told call a) s'
+  moves s s' c c' (Load sheet) a k fair st = to s (Load sheet) st.0 st.1 (load_moves s sheet (load_rule cards.DEPTH (cards.held c) s (content_of sheet)).0 (load_rule cards.DEPTH (cards.held c) s (content_of sheet)).1 (loaded s sheet (Some (shares_of s.sheet)) cards.DEPTH (cards.held c)))
   moves s s' c c' (Arrive f l n) a k fair st = to s (Arrive f l n) st.0 st.1 (arrive_moves s f l n (arrive_rule s f l n).0 (arrive_rule s f l n).1 (arrivals_step_lem s f l n k fair) (arrives_so s f l n))
-  moves s s' c c' (Send l) a k fair st = to s (Send l) st.0 st.1 (send_moves (Send l) s (send_rule cards.depth (cards.held c) s l) (sends_step_lem cards.depth (cards.held c) s l k fair) (send_sheet cards.depth (cards.held c) s l))
-  moves s s' c c' (Kick l) a k fair st = to s (Kick l) st.0 st.1 (send_moves (Kick l) s (kick_rule cards.depth (cards.held c) s l) (kicks_step_lem cards.depth (cards.held c) s l k fair) (kick_sheet cards.depth (cards.held c) s l))
+  moves s s' c c' (Send l) a k fair st = to s (Send l) st.0 st.1 (send_moves (Send l) s (send_rule cards.DEPTH (cards.held c) s l) (sends_step_lem cards.DEPTH (cards.held c) s l k fair) (send_sheet cards.DEPTH (cards.held c) s l))
+  moves s s' c c' (Kick l) a k fair st = to s (Kick l) st.0 st.1 (send_moves (Kick l) s (kick_rule cards.DEPTH (cards.held c) s l) (kicks_step_lem cards.DEPTH (cards.held c) s l k fair) (kick_sheet cards.DEPTH (cards.held c) s l))
   moves s s' c c' Reap a k fair st = to s Reap st.3 st.4 (reap_moves s st.0 k)
   moves s s' c c' Time a k fair st = to s Time st.0 st.1 (still s s refl)
   moves s s' c c' Ready a k fair st = to s Ready st.0 st.1 (still s s refl)
@@ -176,13 +176,13 @@ module _ {C : Type 0} (cards : Ghosts C) where
   quiet : (call : Call) {a a₀ : Answer} {s' s₀ : State} → a ≡ a₀ → s' ≡ s₀ → (told call a₀ ≡ share.nothing) × (s₀ ≡ empty blank) → First (told call a) s'
   quiet call p q h = inl (ap (told call) p ∙ h.0, q ∙ h.1)
 
-  firsts : (s' : State) (c c' : C) (call : Call) (a : Answer) → Step cards.depth cards.held cards.finishes (empty blank) c call a s' c' → First (told call a) s'
+  firsts : (s' : State) (c c' : C) (call : Call) (a : Answer) → Step cards.DEPTH cards.held cards.finishes (empty blank) c call a s' c' → First (told call a) s'
   firsts s' c c' (Load sheet) a st =
-      let v = load_rule cards.depth (cards.held c) (empty blank) (content_of sheet) in
-      subst (λ x. First (told (Load sheet) x) s') (sym st.0) (subst (λ t. First (told (Load sheet) (Loaded v.0)) t) (sym st.1) (load_first sheet v.0 v.1 (loaded (empty blank) sheet None cards.depth (cards.held c))))
+      let v = load_rule cards.DEPTH (cards.held c) (empty blank) (content_of sheet) in
+      subst (λ x. First (told (Load sheet) x) s') (sym st.0) (subst (λ t. First (told (Load sheet) (Loaded v.0)) t) (sym st.1) (load_first sheet v.0 v.1 (loaded (empty blank) sheet None cards.DEPTH (cards.held c))))
   firsts s' c c' (Arrive f l n) a st = quiet (Arrive f l n) st.0 st.1 (arrive_quiet f l n)
-  firsts s' c c' (Send l) a st = quiet (Send l) st.0 st.1 (send_quiet cards.depth (cards.held c) l)
-  firsts s' c c' (Kick l) a st = quiet (Kick l) st.0 st.1 (kick_quiet cards.depth (cards.held c) l)
+  firsts s' c c' (Send l) a st = quiet (Send l) st.0 st.1 (send_quiet cards.DEPTH (cards.held c) l)
+  firsts s' c c' (Kick l) a st = quiet (Kick l) st.0 st.1 (kick_quiet cards.DEPTH (cards.held c) l)
   firsts s' c c' Reap a st = quiet Reap st.3 st.4 (idle st.0)
   firsts s' c c' Time a st = quiet Time st.0 st.1 (refl, refl)
   firsts s' c c' Ready a st = quiet Ready st.0 st.1 (refl, refl)
@@ -195,7 +195,7 @@ module _ {C : Type 0} (cards : Ghosts C) where
       let s' = state_of b'.books in
       ⊎_elim
       (λ (new : (o ≡ None) × (s ≡ empty blank) × (c ≡ bare None (empty blank))).
-      let st = subst (λ t. Step cards.depth cards.held cards.finishes t b.card call answer s' b'.card) new.1 did.step in
+      let st = subst (λ t. Step cards.DEPTH cards.held cards.finishes t b.card call answer s' b'.card) new.1 did.step in
       subst (λ p. (c' : step.Books) × step.Step c e c' × At (sheet_after p e) s' c') (sym new.0)
       (subst (λ q. (c' : step.Books) × step.Step q e c' × At (sheet_after None e) s' c') (sym new.2)
       (⊎_elim

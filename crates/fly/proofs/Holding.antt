@@ -182,45 +182,45 @@ stays_tied depth s s' held c sh k = record { same = λ g. k.same g ∙ ap (sum_b
 module _ {C : Type 0} (cards : Ghosts C) where
   -- to a card, books and an answer that are those of the rule; before the first load nothing is told
   tie_to : (o : Option share.Sheet) (call : Call) {a a₀ : Answer} {s s' s₀ : State} {hs hs' : List Command} → a ≡ a₀ → s' ≡ s₀
-      → (s ≡ empty blank → (told call a₀ ≡ share.nothing) × (s₀ ≡ empty blank)) → (Tied cards.depth s hs → Tied cards.depth s₀ hs') → Tie cards.depth o s hs → Tie cards.depth (sheet_after o (told call a)) s' hs'
+      → (s ≡ empty blank → (told call a₀ ≡ share.nothing) × (s₀ ≡ empty blank)) → (Tied cards.DEPTH s hs → Tied cards.DEPTH s₀ hs') → Tie cards.DEPTH o s hs → Tie cards.DEPTH (sheet_after o (told call a)) s' hs'
   tie_to o call {a} {a₀} {s} {s'} {s₀} {hs} {hs'} p q quiet keeps k =
       ⊎_elim
       (λ (new : (o ≡ None) × (s ≡ empty blank)). let h = quiet new.1 in inl (ap (sheet_after o) (ap (told call) p ∙ h.0) ∙ new.0, q ∙ h.1))
-      (λ tied. inr (subst (λ t. Tied cards.depth t hs') (sym q) (keeps tied)))
+      (λ tied. inr (subst (λ t. Tied cards.DEPTH t hs') (sym q) (keeps tied)))
       k
 
-  tie_step : (o : Option share.Sheet) (s s' : State) (c c' : C) (call : Call) (a : Answer) → Sound s → Step cards.depth cards.held cards.finishes s c call a s' c' → Tie cards.depth o s (cards.held c) → Tie cards.depth (sheet_after o (told call a)) s' (cards.held c')
+  tie_step : (o : Option share.Sheet) (s s' : State) (c c' : C) (call : Call) (a : Answer) → Sound s → Step cards.DEPTH cards.held cards.finishes s c call a s' c' → Tie cards.DEPTH o s (cards.held c) → Tie cards.DEPTH (sheet_after o (told call a)) s' (cards.held c')
   unfolding Carries
   tie_step o s s' c c' (Load sheet) a k st tie =
-      let v = load_rule cards.depth (cards.held c) s (content_of sheet) in
-      let at : Tie cards.depth (sheet_after o (told (Load sheet) (Loaded v.0))) v.1 (cards.held c) = load_tie cards.depth (cards.held c) s sheet o v.0 v.1 (load_tied cards.depth (cards.held c) s (content_of sheet)) tie in
-      subst (λ x. Tie cards.depth (sheet_after o (told (Load sheet) a)) s' (cards.held x)) (sym st.2)
-      (subst (λ x. Tie cards.depth (sheet_after o (told (Load sheet) x)) s' (cards.held c)) (sym st.0)
-      (subst (λ t. Tie cards.depth (sheet_after o (told (Load sheet) (Loaded v.0))) t (cards.held c)) (sym st.1) at))
+      let v = load_rule cards.DEPTH (cards.held c) s (content_of sheet) in
+      let at : Tie cards.DEPTH (sheet_after o (told (Load sheet) (Loaded v.0))) v.1 (cards.held c) = load_tie cards.DEPTH (cards.held c) s sheet o v.0 v.1 (load_tied cards.DEPTH (cards.held c) s (content_of sheet)) tie in
+      subst (λ x. Tie cards.DEPTH (sheet_after o (told (Load sheet) a)) s' (cards.held x)) (sym st.2)
+      (subst (λ x. Tie cards.DEPTH (sheet_after o (told (Load sheet) x)) s' (cards.held c)) (sym st.0)
+      (subst (λ t. Tie cards.DEPTH (sheet_after o (told (Load sheet) (Loaded v.0))) t (cards.held c)) (sym st.1) at))
   tie_step o s s' c c' (Arrive f l n) a k st tie =
       let same = still s f l n in
-      subst (λ x. Tie cards.depth (sheet_after o (told (Arrive f l n) a)) s' (cards.held x)) (sym st.2)
+      subst (λ x. Tie cards.DEPTH (sheet_after o (told (Arrive f l n) a)) s' (cards.held x)) (sym st.2)
       (tie_to o (Arrive f l n) st.0 st.1
       (λ e. subst (λ t. (told (Arrive f l n) (Arrived (arrive_rule t f l n).0) ≡ share.nothing) × ((arrive_rule t f l n).1 ≡ empty blank)) (sym e) (arrive_quiet f l n))
-      (stays_tied cards.depth s (arrive_rule s f l n).1 (cards.held c) same.0 same.1) tie)
+      (stays_tied cards.DEPTH s (arrive_rule s f l n).1 (cards.held c) same.0 same.1) tie)
   tie_step o s s' c c' (Send l) a k st tie =
       tie_to o (Send l) st.0 st.1
-      (λ e. subst (λ t. (told (Send l) (Moved (send_rule cards.depth (cards.held c) t l).says) ≡ share.nothing) × ((send_rule cards.depth (cards.held c) t l).books ≡ empty blank)) (sym e) (send_quiet cards.depth (cards.held c) l))
-      (λ tied. send_carries cards.depth cards.depth (cards.held c) s l (cards.held c) (cards.held c') tied st.2) tie
+      (λ e. subst (λ t. (told (Send l) (Moved (send_rule cards.DEPTH (cards.held c) t l).says) ≡ share.nothing) × ((send_rule cards.DEPTH (cards.held c) t l).books ≡ empty blank)) (sym e) (send_quiet cards.DEPTH (cards.held c) l))
+      (λ tied. send_carries cards.DEPTH cards.DEPTH (cards.held c) s l (cards.held c) (cards.held c') tied st.2) tie
   tie_step o s s' c c' (Kick l) a k st tie =
       tie_to o (Kick l) st.0 st.1
-      (λ e. subst (λ t. (told (Kick l) (Moved (kick_rule cards.depth (cards.held c) t l).says) ≡ share.nothing) × ((kick_rule cards.depth (cards.held c) t l).books ≡ empty blank)) (sym e) (kick_quiet cards.depth (cards.held c) l))
-      (λ tied. kick_carries cards.depth cards.depth (cards.held c) s l (cards.held c) (cards.held c') tied st.2) tie
+      (λ e. subst (λ t. (told (Kick l) (Moved (kick_rule cards.DEPTH (cards.held c) t l).says) ≡ share.nothing) × ((kick_rule cards.DEPTH (cards.held c) t l).books ≡ empty blank)) (sym e) (kick_quiet cards.DEPTH (cards.held c) l))
+      (λ tied. kick_carries cards.DEPTH cards.DEPTH (cards.held c) s l (cards.held c) (cards.held c') tied st.2) tie
   tie_step o s s' c c' Reap a k st tie =
       tie_to o Reap st.3 st.4
       (λ e. subst (λ t. (told Reap (Reaped (reap_rule t st.0).0) ≡ share.nothing) × ((reap_rule t st.0).1 ≡ empty blank)) (sym e) (idle st.0))
-      (λ tied. reap_tied cards.depth s (cards.held c) (cards.held c') st.0 (λ t. omega (arith, k.1.1.1.1.1.1.0 t)) tied st.1) tie
-  tie_step o s s' c c' Time a k st tie = subst (λ x. Tie cards.depth (sheet_after o (told Time a)) s' (cards.held x)) (sym st.2) (tie_to o Time st.0 st.1 (λ e. (refl, e)) (λ tied. tied) tie)
-  tie_step o s s' c c' Ready a k st tie = subst (λ x. Tie cards.depth (sheet_after o (told Ready a)) s' (cards.held x)) (sym st.2) (tie_to o Ready st.0 st.1 (λ e. (refl, e)) (λ tied. tied) tie)
-  tie_step o s s' c c' (Flow f) a k st tie = subst (λ x. Tie cards.depth (sheet_after o (told (Flow f) a)) s' (cards.held x)) (sym st.2) (tie_to o (Flow f) st.0 st.1 (λ e. (refl, e)) (λ tied. tied) tie)
+      (λ tied. reap_tied cards.DEPTH s (cards.held c) (cards.held c') st.0 (λ t. omega (arith, k.1.1.1.1.1.1.0 t)) tied st.1) tie
+  tie_step o s s' c c' Time a k st tie = subst (λ x. Tie cards.DEPTH (sheet_after o (told Time a)) s' (cards.held x)) (sym st.2) (tie_to o Time st.0 st.1 (λ e. (refl, e)) (λ tied. tied) tie)
+  tie_step o s s' c c' Ready a k st tie = subst (λ x. Tie cards.DEPTH (sheet_after o (told Ready a)) s' (cards.held x)) (sym st.2) (tie_to o Ready st.0 st.1 (λ e. (refl, e)) (λ tied. tied) tie)
+  tie_step o s s' c c' (Flow f) a k st tie = subst (λ x. Tie cards.DEPTH (sheet_after o (told (Flow f) a)) s' (cards.held x)) (sym st.2) (tie_to o (Flow f) st.0 st.1 (λ e. (refl, e)) (λ tied. tied) tie)
 
-  pub tie : {first : Board C cards} {log : List Entry} {b : Board C cards} → state_of first.books ≡ empty blank → Run cards first log b → Tie cards.depth (share.seen (map event log)).sheet (state_of b.books) (cards.held b.card)
+  pub tie : {first : Board C cards} {log : List Entry} {b : Board C cards} → state_of first.books ≡ empty blank → Run cards first log b → Tie cards.DEPTH (share.seen (map event log)).sheet (state_of b.books) (cards.held b.card)
   tie new start = inl (refl, new)
   tie new (more {log = log} {b = b} {b' = b'} call answer run did) =
-      subst (λ o. Tie cards.depth o (state_of b'.books) (cards.held b'.card)) (sym (sheet_push log (call, answer)))
+      subst (λ o. Tie cards.DEPTH o (state_of b'.books) (cards.held b'.card)) (sym (sheet_push log (call, answer)))
       (tie_step (share.seen (map event log)).sheet (state_of b.books) (state_of b'.books) b.card b'.card call answer (sound b.books) did.step (tie new run))

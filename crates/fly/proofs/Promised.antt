@@ -38,7 +38,7 @@ pub record Known {C : Type 0} (cards : Ghosts C) (log : List Entry) (b : Board C
   pub waiting : IsPermutation (after log).waiting (waiting_of (state_of b.books).lanes)
   pub unfinished : IsPermutation (after log).unfinished (map request_of (state_of b.books).in_card)
   pub room : length (map request_of (state_of b.books).in_card) ≤ x.slots
-  pub tie : Tied cards.depth (state_of b.books) (cards.held b.card)
+  pub tie : Tied cards.DEPTH (state_of b.books) (cards.held b.card)
 
 -- each answer is of its call's kind
 kind_of : {C : Type 0} (depth : ℕ) (held : C → List Command) (finishes : C → Option (ℕ × ℕ) → C → Type 0) (s : State) (c : C) (call : Call) (a : Answer) (s' : State) (c' : C) → Step depth held finishes s c call a s' c' → call_kind call ≡ answer_kind a
@@ -105,11 +105,11 @@ module _ {C : Type 0} (cards : Ghosts C) {first : Board C cards} (new : state_of
       let slots = ap (λ (y : share.Sheet). y.slots) k.sheet in
       let lanes = ap (λ (y : share.Sheet). y.lanes) k.sheet in (
         (λ sent.
-            let h = has_sent cards.depth (cards.held b.card) s l (subst (λ y. IsSent (told (Kick l) y)) says sent) in
+            let h = has_sent cards.DEPTH (cards.held b.card) s l (subst (λ y. IsSent (told (Kick l) y)) says sent) in
             (omega (arith, h.1, in_card, same_length, slots), omega (arith, waits, lead_waits s.lanes h.0))),
         (λ can.
             subst (λ y. IsSent (told (Kick l) y)) (sym says)
-            (can_send cards.depth (cards.held b.card) s l (sound b.books) k.tie (omega (arith, there, lanes)) (waits_lead s.lanes (omega (arith, waits, can.1))) (omega (arith, can.0, in_card, same_length, slots)))),
+            (can_send cards.DEPTH (cards.held b.card) s l (sound b.books) k.tie (omega (arith, there, lanes)) (waits_lead s.lanes (omega (arith, waits, can.1))) (omega (arith, can.0, in_card, same_length, slots)))),
       )
 
   kinds : {log : List Entry} {b : Board C cards} → Run cards first log b → map (λ (e : Entry). call_kind e.0) log ≡ map (λ (e : Entry). answer_kind e.1) log
@@ -117,7 +117,7 @@ module _ {C : Type 0} (cards : Ghosts C) {first : Board C cards} (new : state_of
   kinds (more {log = log} {b = b} {b' = b'} call answer run did) =
       map_push (λ (e : Entry). call_kind e.0) log (call, answer)
       ∙ ap (λ ks. ks ++ call_kind call ∷ []) (kinds run)
-      ∙ ap (λ k. map (λ (e : Entry). answer_kind e.1) log ++ k ∷ []) (kind_of cards.depth cards.held cards.finishes (state_of b.books) b.card call answer (state_of b'.books) b'.card did.step)
+      ∙ ap (λ k. map (λ (e : Entry). answer_kind e.1) log ++ k ∷ []) (kind_of cards.DEPTH cards.held cards.finishes (state_of b.books) b.card call answer (state_of b'.books) b'.card did.step)
       ∙ sym (map_push (λ (e : Entry). answer_kind e.1) log (call, answer))
 
 module _ {C : Type 0} (cards : Ghosts C) {first : Board C cards} (new : state_of first.books ≡ empty blank) where

@@ -110,7 +110,7 @@ Step depth held finishes s c (Flow f) a s' c' = (a ≡ OfFlow (flow_rule s f)) �
 
 -- (a record, so that its parts are read off its type)
 pub record Did {C : Type 0} (cards : Ghosts C) (b : Board C cards) (call : Call) (answer : Answer) (b' : Board C cards) : Type 0 where
-  pub step : Step cards.depth cards.held cards.finishes (state_of b.books) b.card call answer (state_of b'.books) b'.card
+  pub step : Step cards.DEPTH cards.held cards.finishes (state_of b.books) b.card call answer (state_of b'.books) b'.card
 
 -- The calls of the log, in their order, each by its rule, take the first board to the last.
 pub data Run {C : Type 0} (cards : Ghosts C) (first : Board C cards) : List Entry → Board C cards → Type 0 where

@@ -4,18 +4,18 @@ use Rattle.std.proofs.lemmas.List.{append-nil, map_push}
 use Rattle.card.specs.declared.Command.{Command}
 use Rattle.card.specs.declared.CardFault.{CardFault}
 use Rattle.card.specs.declared.CardFault.TheVariants.{Full, HeldAlready}
-use Rattle.card.specs.Commands.{among, command}
+use Rattle.card.specs.Commands.{among}
 use Rattle.queue.specs.Fifo.{Call, submit, finish, next, took, gave, after, accepted, finished, tickets, Fifo}
 
 -- one submit, whichever way its two tests come out
-submitted : (queue : List Command) (t n : ℕ) (room held : Bool) → let r : Result (Unit {0}) CardFault × List Command = cond room (cond held (Err HeldAlready, queue) (Ok tt, queue ++ command t n ∷ [])) (Err Full, queue) in tickets queue ++ cond (is_ok r.0) (t ∷ []) [] ≡ tickets r.1
-submitted queue t n true true = append-nil (tickets queue)
-submitted queue t n true false = sym (map_push (λ c. c.ticket) queue (command t n))
-submitted queue t n false held = append-nil (tickets queue)
+submitted : (queue : List Command) (c : Command) (room held : Bool) → let r : Result (Unit {0}) CardFault × List Command = cond room (cond held (Err HeldAlready, queue) (Ok tt, queue ++ c ∷ [])) (Err Full, queue) in tickets queue ++ cond (is_ok r.0) (c.ticket ∷ []) [] ≡ tickets r.1
+submitted queue c true true = append-nil (tickets queue)
+submitted queue c true false = sym (map_push (λ c. c.ticket) queue c)
+submitted queue c false held = append-nil (tickets queue)
 
 -- one call: what it takes goes to the end, what it answers comes from the front
 one : (queue : List Command) (call : Call) → tickets queue ++ took queue call ≡ gave queue call ++ tickets (next queue call)
-one queue (submit t n) = submitted queue t n (ltb (length queue) 16) (among t queue)
+one queue (submit c) = submitted queue c (ltb (length queue) 16) (among c.ticket queue)
 one [] finish = refl
 one (c ∷ queue) finish = append-nil (tickets (c ∷ queue))
 

@@ -3,19 +3,19 @@ use Rattle.std.specs.Prelude.{◌≡◌, ℕ, cond, List, [], ◌∷◌, ◌++�
 use Rattle.card.specs.declared.Command.{Command}
 use Rattle.queue.specs.Queues.{submit_rule, finish_rule}
 
--- a call: submit with a ticket and a length, or finish
+-- a call: submit of a command, or finish
 pub data Call : Type 0 where
-  submit : ℕ → ℕ → Call
+  submit : Command → Call
   finish : Call
 
 -- what one call leaves in the queue
 abbrev pub next : List Command → Call → List Command
-next queue (submit t n) = (submit_rule queue t n).1
+next queue (submit c) = (submit_rule queue c).1
 next queue finish = (finish_rule queue).1
 
 -- the ticket that one call puts into the queue, if any
 abbrev pub took : List Command → Call → List ℕ
-took queue (submit t n) = cond (is_ok (submit_rule queue t n).0) (t ∷ []) []
+took queue (submit c) = cond (is_ok (submit_rule queue c).0) (c.ticket ∷ []) []
 took queue finish = []
 
 -- the ticket in an answer of finish, if any
@@ -25,7 +25,7 @@ ticket_in (Some done) = done.0 ∷ []
 
 -- the ticket that one call answers, if any
 abbrev pub gave : List Command → Call → List ℕ
-gave queue (submit t n) = []
+gave queue (submit c) = []
 gave queue finish = ticket_in (finish_rule queue).0
 
 -- what some calls leave in the queue, and the tickets that they put into it and answer, in their order

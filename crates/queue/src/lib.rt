@@ -30,24 +30,24 @@ impl QueueCard {
 impl Card for QueueCard {
     const DEPTH: usize = 16;
 
-    ghost depth = { 16 };
+    ghost DEPTH = { 16 };
 
     ghost held = { λ q. commands_of q.commands };
 
     ghost finishes = { λ q r after. (r ≡ (finish_rule (commands_of q.commands)).0) × (commands_of after.commands ≡ (finish_rule (commands_of q.commands)).1) };
 
-    fn submit(&mut self, ticket: u32, sectors: u16) -> Result<(), CardFault>
-        ensures card { Submitted 16 (commands_of self.old.commands) ticket sectors result (commands_of self.new.commands) }
-        ensures answer { result ≡ (submit_rule (commands_of self.old.commands) ticket sectors).0 }
-        ensures queue { commands_of self.new.commands ≡ (submit_rule (commands_of self.old.commands) ticket sectors).1 }
+    fn submit(&mut self, command: Command) -> Result<(), CardFault>
+        ensures card { Submitted 16 (commands_of self.old.commands) command result (commands_of self.new.commands) }
+        ensures answer { result ≡ (submit_rule (commands_of self.old.commands) command).0 }
+        ensures queue { commands_of self.new.commands ≡ (submit_rule (commands_of self.old.commands) command).1 }
     {
         if self.commands.len() >= Self::DEPTH {
             return Err(CardFault::Full);
         }
-        if self.commands.contains(ticket) {
+        if self.commands.contains(command.ticket) {
             return Err(CardFault::HeldAlready);
         }
-        self.commands.push(Command { ticket, sectors });
+        self.commands.push(command);
         Ok(())
     }
 
@@ -62,10 +62,6 @@ impl Card for QueueCard {
 
     fn count(&self) -> usize {
         self.commands.len()
-    }
-
-    fn capacity() -> usize {
-        Self::DEPTH
     }
 }
 

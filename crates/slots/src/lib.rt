@@ -3,10 +3,12 @@
 //! Taking a slot gives a grant. A grant ends by being spent on one request that is sent, or by being given back.
 #![tactic(auto)]
 
-ghost use Rattle.std.specs.Prelude.{◌≡◌, ◌+◌, ◌-◌, ◌<◌, ◌≤◌, MatchOption, MatchResult};
+ghost use Rattle.std.specs.Prelude.{◌≡◌, ◌+◌, ◌<◌, ◌≤◌, MatchOption, MatchResult};
 ghost use Rattle.card.specs.Commands.{Submitted};
+ghost use Rattle.slots.specs.Counts.{Counts, all_in, freed, given_back, out, spent, taken};
 
 use card::{Card, CardFault, Command};
+use std::marker::Model;
 
 /// A slot is out while its grant is held, or until the request that was sent for it has finished.
 #[derive(Drop)]
@@ -17,7 +19,14 @@ pub struct Slots {
     sent: usize,
     /// How many slots there are.
     limit: usize,
-    ghost within: { granted + sent ≤ limit },
+}
+
+impl Model for Slots {
+    ghost Value = { Counts };
+
+    ghost view = { λ s. record { granted = s.granted; sent = s.sent; limit = s.limit } };
+
+    ghost invariant = { λ s. s.granted + s.sent ≤ s.limit };
 }
 
 /// One slot that was taken. It is neither `Drop` nor `Copy`: whoever holds it spends it once or gives it back.
@@ -29,7 +38,7 @@ pub struct Grant {
 impl Slots {
     /// Slots of which none is out.
     pub fn new(limit: usize) -> Slots
-        ensures { (result.granted ≡ 0) × (result.sent ≡ 0) × (result.limit ≡ limit) }
+        ensures { result ≡ all_in limit }
     {
         Slots {
             granted: 0,
@@ -40,9 +49,7 @@ impl Slots {
 
     /// A grant, or nothing where all slots are out.
     pub fn take(&mut self) -> Option<Grant>
-        ensures granted { MatchOption result ((self.old.granted + self.old.sent ≡ self.old.limit) × (self.new.granted ≡ self.old.granted)) (λ _. (self.old.granted + self.old.sent < self.old.limit) × (self.new.granted ≡ self.old.granted + 1)) }
-        ensures sent { self.new.sent ≡ self.old.sent }
-        ensures limit { self.new.limit ≡ self.old.limit }
+        ensures { MatchOption result ((out self.old ≡ self.old.limit) × (self.new ≡ self.old)) (λ _. (out self.old < self.old.limit) × (self.new ≡ taken self.old)) }
     {
         if self.granted + self.sent >= self.limit {
             return None;
@@ -53,9 +60,7 @@ impl Slots {
 
     /// Frees the slot of a request that has finished. Where no sent request is counted nothing changes.
     pub fn free(&mut self)
-        ensures granted { self.new.granted ≡ self.old.granted }
-        ensures sent { self.new.sent ≡ self.old.sent - 1 }
-        ensures limit { self.new.limit ≡ self.old.limit }
+        ensures { self.new ≡ freed self.old }
     {
         self.sent = self.sent.saturating_sub(1);
     }
@@ -64,9 +69,7 @@ impl Slots {
 impl Grant {
     /// Turns the slot into that of a request that was sent: as many are out as before. Where no grant is out nothing changes.
     pub fn spend(self, slots: &mut Slots)
-        ensures granted { slots.new.granted ≡ slots.old.granted - 1 }
-        ensures out { slots.new.granted + slots.new.sent ≡ slots.old.granted + slots.old.sent }
-        ensures limit { slots.new.limit ≡ slots.old.limit }
+        ensures { slots.new ≡ spent slots.old }
     {
         let Grant { sealed: () } = self;
         if slots.granted > 0 {
@@ -77,9 +80,7 @@ impl Grant {
 
     /// Makes the slot free again. Where no grant is out nothing changes.
     pub fn give_back(self, slots: &mut Slots)
-        ensures granted { slots.new.granted ≡ slots.old.granted - 1 }
-        ensures sent { slots.new.sent ≡ slots.old.sent }
-        ensures limit { slots.new.limit ≡ slots.old.limit }
+        ensures { slots.new ≡ given_back slots.old }
     {
         let Grant { sealed: () } = self;
         slots.granted = slots.granted.saturating_sub(1);
@@ -93,12 +94,11 @@ pub fn hand_over<C: Card>(
     grant: Grant,
     command: Command,
 ) -> Result<(), CardFault>
-    ensures submitted { Submitted C.depth (C.held card.old) command.ticket command.sectors result (C.held card.new) }
-    ensures granted { slots.new.granted ≡ slots.old.granted - 1 }
-    ensures sent { MatchResult result (λ _. slots.new.granted + slots.new.sent ≡ slots.old.granted + slots.old.sent) (λ _. slots.new.sent ≡ slots.old.sent) }
-    ensures limit { slots.new.limit ≡ slots.old.limit }
+    ensures submitted { Submitted C.DEPTH (C.held card.old) command result (C.held card.new) }
+    ensures slots { MatchResult result (λ _. slots.new ≡ spent slots.old) (λ _. slots.new ≡ given_back slots.old) }
 {
-    match card.submit(command.ticket, command.sectors) {
+    // The grant is used up on either path, by one of two calls: a `match` is the plainest form of that.
+    match card.submit(command) {
         Ok(()) => {
             grant.spend(slots);
             Ok(())

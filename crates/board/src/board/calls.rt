@@ -27,14 +27,14 @@ impl<C: Card> Board<C> {
     }
 
     pub fn load(&mut self, sheet: Sheet) -> Result<(), Refusal>
-        ensures rule { Meets result (state_of self.new.books) (load_rule C.depth (C.held self.old.card) (state_of self.old.books) (content_of sheet)) }
-        ensures numbered { outcome_of loading_of result ≡ outcome_of loading_of (load_rule C.depth (C.held self.old.card) (state_of self.old.books) (content_of sheet)).0 }
+        ensures rule { Meets result (state_of self.new.books) (load_rule C.DEPTH (C.held self.old.card) (state_of self.old.books) (content_of sheet)) }
+        ensures numbered { outcome_of loading_of result ≡ outcome_of loading_of (load_rule C.DEPTH (C.held self.old.card) (state_of self.old.books) (content_of sheet)).0 }
         ensures card { self.new.card ≡ self.old.card }
     {
         if self.books.waits() || self.books.in_card() > 0 || self.card.count() > 0 {
             return Err(Refusal::Busy);
         }
-        if sheet.slots() as usize > C::capacity() {
+        if sheet.slots() as usize > C::DEPTH {
             return Err(Refusal::TooDeep);
         }
         self.slots = Slots::new(sheet.slots() as usize);

@@ -12,8 +12,8 @@ use slots::hand_over;
 
 impl<C: Card> Board<C> {
     pub fn kick(&mut self, lane: u32) -> Result<Sending, Refusal>
-        ensures rule { Done result (state_of self.new.books) (C.held self.old.card) (C.held self.new.card) (kick_rule C.depth (C.held self.old.card) (state_of self.old.books) lane) }
-        ensures numbered { outcome_of sending_of result ≡ outcome_of sending_of (kick_rule C.depth (C.held self.old.card) (state_of self.old.books) lane).says }
+        ensures rule { Done result (state_of self.new.books) (C.held self.old.card) (C.held self.new.card) (kick_rule C.DEPTH (C.held self.old.card) (state_of self.old.books) lane) }
+        ensures numbered { outcome_of sending_of result ≡ outcome_of sending_of (kick_rule C.DEPTH (C.held self.old.card) (state_of self.old.books) lane).says }
     {
         if !self.books.has_lane(lane) {
             return Err(Refusal::NoLane);

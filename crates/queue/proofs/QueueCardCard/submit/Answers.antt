@@ -1,5 +1,5 @@
 use Rattle.std.proofs.Common.{◌≡◌, ◌<◌, false, [], ◌∷◌, ◌++◌, length, sym, ap, ◌∙◌, arith}
-use Rattle.card.specs.Commands.{among, command}
+use Rattle.card.specs.Commands.{among}
 use Rattle.card.proofs.Bags.{more_end}
 use Rattle.ring.specs.Rings.{commands_of}
 use Rattle.ring.proofs.Uses.{pushed_room}
@@ -10,10 +10,9 @@ pub returns : goal.returns
 returns c =
     let before = commands_of c.args.self.now.commands in
     let after = commands_of c.push.new.self in
-    let t = c.args.ticket in
-    let n = c.args.sectors in
+    let d = c.args.command in
     let room : length before < 16 = omega arith in
-    let new : among t before ≡ false = sym c.if-contains.ensures in
-    let pushed : after ≡ before ++ command t n ∷ [] = pushed_room 16 before after (command t n) c.push.result room c.push.ensures.room c.push.ensures.held in
-    let rule = submit_taken before t n room new in
-    record { card = (room, new, more_end (command t n) before after pushed); answer = sym (ap (λ p. p.0) rule); queue = pushed ∙ sym (ap (λ p. p.1) rule) }
+    let new : among d.ticket before ≡ false = sym c.if-contains.ensures in
+    let pushed : after ≡ before ++ d ∷ [] = pushed_room 16 before after d c.push.result room c.push.ensures.room c.push.ensures.held in
+    let rule = submit_taken before d room new in
+    record { card = (room, new, more_end d before after pushed); answer = sym (ap (λ p. p.0) rule); queue = pushed ∙ sym (ap (λ p. p.1) rule) }

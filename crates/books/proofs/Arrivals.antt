@@ -85,52 +85,35 @@ module _ {s : State} {f l n : ℕ} {r : Request} {e time' : ℕ} {ends' : List �
 
   entered_sound : Sound s → f < 16 → l < 8 → (tagged s f n).charge ≤ 1720320 → Sound (entered s l (tagged s f n))
   entered_sound k f16 l8 small =
-      let shaped = k.0 in
-      let few = k.1.0 in
-      let timed = k.1.1.0 in
-      let tags = k.1.1.1.0 in
-      let started = k.1.1.1.1.0 in
-      let fresh = k.1.1.1.1.1.0 in
-      let once = k.1.1.1.1.1.1.0 in
-      let within = k.1.1.1.1.1.1.1.0 in
       let q = tagged s f n in
       let s' = entered s l q in
-      let low : q.start ≤ highest s = omega (arith, timed, tags f) in
+      let low : q.start ≤ highest s = omega (arith, k.timed, k.tagged f) in
       let more = highest s' in
-      let started' : Started s' = omega (arith, gains (λ (x : Request). x.start - more) shaped l8, waiting_mono (λ (x : Request). x.start - more) (λ (x : Request). x.start - highest s) s.lanes (λ x. omega arith), started, low) in (
-        (length-set s.lanes l _ ∙ shaped.0, length-set s.ends f _ ∙ shaped.1),
-        (
-          omega (arith, h.few),
-          (
-            least_high more s.time s'.lanes (omega (arith, timed)) started',
-            (
-              (λ j. ⊎_elim
-                  (λ (same : j ≡ f). omega (arith, ap (λ i. get_or s'.ends i 0) same, get_or-set_same s.ends f (q.start + q.charge) 0 (omega (arith, shaped.1, f16)), low, small))
-                  (λ other. omega (arith, get_or-set_other s.ends f j (q.start + q.charge) 0 other, tags j))
-                  (cases_eq j f)),
-              (
-                started',
-                (
-                  (λ t b. omega (arith, gains (ticket_is t) shaped l8, fresh t (omega (arith, b)), cond-false {A = ℕ} (eqb q.ticket t) 1 0 (ne_eqb q.ticket t (omega (arith, b))))),
-                  (
-                    (λ t. ⊎_elim
-                        (λ (same : q.ticket ≡ t). omega (arith, gains (ticket_is t) shaped l8, fresh t (omega (arith, same)), cond-true {A = ℕ} (eqb q.ticket t) 1 0 (eq-eqb q.ticket t same)))
-                        (λ other. omega (arith, gains (ticket_is t) shaped l8, once t, cond-false {A = ℕ} (eqb q.ticket t) 1 0 (ne_eqb q.ticket t other)))
-                        (cases_eq q.ticket t)),
-                    (
-                      (λ j. ⊎_elim
-                          (λ (same : j ≡ l). omega (arith, ap (λ i. length (get_or s'.lanes i [])) same, ap (λ i. get_or s.sheet.lanes i 0) same, ap length (get_or-set_same s.lanes l (insert by_start q (lane_at s l)) [] (omega (arith, shaped.0, l8))), length-insert by_start q (lane_at s l), h.room))
-                          (λ other. omega (arith, ap length (get_or-set_other s.lanes l j (insert by_start q (lane_at s l)) [] other), within j))
-                          (cases_eq j l)),
-                      (k.1.1.1.1.1.1.1.1.0, (least_again s.time (starts s'.lanes), tt)),
-                    ),
-                  ),
-                ),
-              ),
-            ),
-          ),
-        ),
-      )
+      let started' : Started s' = omega (arith, gains (λ (x : Request). x.start - more) k.shaped l8, waiting_mono (λ (x : Request). x.start - more) (λ (x : Request). x.start - highest s) s.lanes (λ x. omega arith), k.started, low) in
+      record {
+        shaped = (length-set s.lanes l _ ∙ k.shaped.0, length-set s.ends f _ ∙ k.shaped.1);
+        few = omega (arith, h.few);
+        timed = least_high more s.time s'.lanes (omega (arith, k.timed)) started';
+        tagged =
+            λ j. ⊎_elim
+            (λ (same : j ≡ f). omega (arith, ap (λ i. get_or s'.ends i 0) same, get_or-set_same s.ends f (q.start + q.charge) 0 (omega (arith, k.shaped.1, f16)), low, small))
+            (λ other. omega (arith, get_or-set_other s.ends f j (q.start + q.charge) 0 other, k.tagged j))
+            (cases_eq j f);
+        started = started';
+        fresh = λ t b. omega (arith, gains (ticket_is t) k.shaped l8, k.fresh t (omega (arith, b)), cond-false {A = ℕ} (eqb q.ticket t) 1 0 (ne_eqb q.ticket t (omega (arith, b))));
+        once =
+            λ t. ⊎_elim
+            (λ (same : q.ticket ≡ t). omega (arith, gains (ticket_is t) k.shaped l8, k.fresh t (omega (arith, same)), cond-true {A = ℕ} (eqb q.ticket t) 1 0 (eq-eqb q.ticket t same)))
+            (λ other. omega (arith, gains (ticket_is t) k.shaped l8, k.once t, cond-false {A = ℕ} (eqb q.ticket t) 1 0 (ne_eqb q.ticket t other)))
+            (cases_eq q.ticket t);
+        within =
+            λ j. ⊎_elim
+            (λ (same : j ≡ l). omega (arith, ap (λ i. length (get_or s'.lanes i [])) same, ap (λ i. get_or s.sheet.lanes i 0) same, ap length (get_or-set_same s.lanes l (insert by_start q (lane_at s l)) [] (omega (arith, k.shaped.0, l8))), length-insert by_start q (lane_at s l), h.room))
+            (λ other. omega (arith, ap length (get_or-set_other s.lanes l j (insert by_start q (lane_at s l)) [] other), k.within j))
+            (cases_eq j l);
+        deep = k.deep;
+        timely = least_again s.time (starts s'.lanes);
+      }
 
   pub enters_sound : Sound s → f < 16 → l < 8 → (tagged s f n).charge ≤ 1720320 → Sound (record { sheet = s.sheet; time = time'; ends = ends'; lanes = lanes'; in_card = s.in_card; arrivals = s.arrivals + 1 })
   unfolding after

@@ -66,13 +66,13 @@ module _ (b : Books) (t : ℕ) (r : Request) (c' : InCard) (out : Removes t (in_
     pub out_state : state_from b.sheet b.time (set b.flows r.flow x) b.lanes c' b.arrivals ≡ finished (state_of b) t
     out_state =
         ap (λ es. record { sheet = (state_of b).sheet; time = b.time; ends = es; lanes = (state_of b).lanes; in_card = in_card_of c'; arrivals = b.arrivals }) ends_are
-        ∙ ap (with_in_card (state_of b)) (removed_without t (in_card_of b.in_card) (in_card_of c') (Some r) (omega (arith, b.once t)) out)
+        ∙ ap (with_in_card (state_of b)) (removed_without t (in_card_of b.in_card) (in_card_of c') (Some r) (omega (arith, b.sound.once t)) out)
 
 -- ---- a request goes into the card
 
 module _ (b : Books) (l : ℕ) (r : Request) (rest : List Request) (lane : lane_at (state_of b) l ≡ r ∷ rest) where
   lane_there : l < 8
-  lane_there = omega (arith, led_there (state_of b).lanes l r rest lane, b.shaped.0)
+  lane_there = omega (arith, led_there (state_of b).lanes l r rest lane, b.sound.shaped.0)
 
   gone : (g : Request → ℕ) → waiting g (state_of b).lanes ≡ g r + waiting g (set (state_of b).lanes l rest)
   gone g = waiting_less g (state_of b).lanes l r rest (led_there (state_of b).lanes l r rest lane) lane
@@ -83,7 +83,7 @@ module _ (b : Books) (l : ℕ) (r : Request) (rest : List Request) (lane : lane_
       let k = recorded (λ (x : FlowRecord). x.waiting) b.flows f (waiting (flow_is f) (state_of b).lanes) no_record (b.counts_waiting f) (omega (arith, gone (flow_is f), own r f refl)) in
       let there : f < length b.flows = k.0 in
       let sits = sym (get_or-map (λ (x : FlowRecord). x.in_card) b.flows f no_record 0 there) ∙ b.counts_in_card f in
-      (omega (arith, k.0, sixteen b), omega (arith, k.1, gone (flow_is f), own r f refl), omega (arith, sits, flow_le f (state_of b).in_card, b.deep, b.sheet.few_slots))
+      (omega (arith, k.0, sixteen b), omega (arith, k.1, gone (flow_is f), own r f refl), omega (arith, sits, flow_le f (state_of b).in_card, b.sound.deep, b.sheet.few_slots))
 
   module _ (x : FlowRecord) (time' : ℕ) (lanes' : Lanes) (c' : InCard) (pushed : Bool)
       (is : x ≡ record { end = (record_at b r.flow).end; waiting = (record_at b r.flow).waiting - 1; in_card = (record_at b r.flow).in_card + 1 })
@@ -143,7 +143,7 @@ module _ {b : Books} {f l n : ℕ} {share : Flow} {k charge start e time' : ℕ}
   entry : Entry (state_of b) f l n (record { start = start; ticket = b.arrivals; flow = f; sectors = n; charge = charge }) e time' (ends_of (set b.flows f x)) (lanes_of lanes')
   entry =
       let p = priced (state_of b) f l n share k charge a.flow a.lane a.price in
-      let end = sym (end_at b.flows f no_record (omega (arith, b.shaped.1, a.flow.few))) in
+      let end = sym (end_at b.flows f no_record (omega (arith, b.sound.shaped.1, a.flow.few))) in
       record {
         right = p.0;
         room = omega (arith, a.room, a.lane.is);
@@ -165,6 +165,6 @@ module _ {b : Books} {f l n : ℕ} {share : Flow} {k charge start e time' : ℕ}
       let small : charge_of n (flow_at s f).weight ≤ 1720320 = laws.largest n (flow_at s f).weight (omega (arith, entry.right.most, ap (λ (y : Flow). y.longest) share-is, a.flow.most)) (omega (arith, a.flow.some, ap (λ (y : Flow). y.weight) share-is)) in
       kept (set b.flows f x) (state_from b.sheet time' (set b.flows f x) lanes' b.in_card (b.arrivals + 1))
       (count_up (λ (y : FlowRecord). y.waiting) b.flows x no_record (λ j. waiting (flow_is j) s.lanes) (λ j. waiting (flow_is j) (lanes_of lanes')) (record { start = start; ticket = b.arrivals; flow = f; sectors = n; charge = charge }) f refl flow_in (ap (λ (y : FlowRecord). y.waiting) a.tagged)
-      (λ j. ap (waiting (flow_is j)) entry.lanes ∙ waiting_more (flow_is j) s.lanes l _ (omega (arith, a.lane.few, b.shaped.0))) b.counts_waiting)
+      (λ j. ap (waiting (flow_is j)) entry.lanes ∙ waiting_more (flow_is j) s.lanes l _ (omega (arith, a.lane.few, b.sound.shaped.0))) b.counts_waiting)
       (count_stays (λ (y : FlowRecord). y.in_card) b.flows f x no_record (λ j. sum_by (flow_is j) s.in_card) flow_in (ap (λ (y : FlowRecord). y.in_card) a.tagged) b.counts_in_card)
       (enters_sound entry (sound b) a.flow.few a.lane.few small)

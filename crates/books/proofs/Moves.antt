@@ -35,43 +35,26 @@ module _ {s : State} {l : ℕ} {r : Request} {rest : List Request} {time' : ℕ}
 
   moved_sound : Sound s → l < 8 → length s.in_card < s.sheet.slots → Sound (moved_from s l (r ∷ rest))
   moved_sound k l8 room =
-      let shaped = k.0 in
-      let timed = k.1.1.0 in
-      let started = k.1.1.1.1.0 in
-      let fresh = k.1.1.1.1.1.0 in
-      let once = k.1.1.1.1.1.1.0 in
-      let within = k.1.1.1.1.1.1.1.0 in
       let s' = moved_from s l (r ∷ rest) in
-      let loses : (g : Request → ℕ) → waiting g s.lanes ≡ g r + waiting g s'.lanes = λ g. waiting_less g s.lanes l r rest (omega (arith, shaped.0, l8)) h.lead in
+      let loses : (g : Request → ℕ) → waiting g s.lanes ≡ g r + waiting g s'.lanes = λ g. waiting_less g s.lanes l r rest (omega (arith, k.shaped.0, l8)) h.lead in
       let stands : (t : ℕ) → standing s' t ≡ standing s t = λ t. omega (arith, loses (ticket_is t), sum_by-insert by_ticket (ticket_is t) r s.in_card) in
-      let started' : Started s' = omega (arith, loses (λ (x : Request). x.start - highest s), started) in (
-        (length-set s.lanes l rest ∙ shaped.0, shaped.1),
-        (
-          k.1.0,
-          (
-            least_high (highest s) s.time s'.lanes timed started',
-            (
-              k.1.1.1.0,
-              (
-                started',
-                (
-                  (λ t b. stands t ∙ fresh t b),
-                  (
-                    (λ t. omega (arith, stands t, once t)),
-                    (
-                      (λ j. ⊎_elim
-                          (λ (same : j ≡ l). omega (arith, ap (λ i. length (get_or s'.lanes i [])) same, ap (λ i. get_or s.sheet.lanes i 0) same, ap length (get_or-set_same s.lanes l rest [] (omega (arith, shaped.0, l8))), ap length h.lead, within l))
-                          (λ other. omega (arith, ap length (get_or-set_other s.lanes l j rest [] other), within j))
-                          (cases_eq j l)),
-                      (omega (arith, length-insert by_ticket r s.in_card, room), (least_again s.time (starts s'.lanes), tt)),
-                    ),
-                  ),
-                ),
-              ),
-            ),
-          ),
-        ),
-      )
+      let started' : Started s' = omega (arith, loses (λ (x : Request). x.start - highest s), k.started) in
+      record {
+        shaped = (length-set s.lanes l rest ∙ k.shaped.0, k.shaped.1);
+        few = k.few;
+        timed = least_high (highest s) s.time s'.lanes k.timed started';
+        tagged = k.tagged;
+        started = started';
+        fresh = λ t b. stands t ∙ k.fresh t b;
+        once = λ t. omega (arith, stands t, k.once t);
+        within =
+            λ j. ⊎_elim
+            (λ (same : j ≡ l). omega (arith, ap (λ i. length (get_or s'.lanes i [])) same, ap (λ i. get_or s.sheet.lanes i 0) same, ap length (get_or-set_same s.lanes l rest [] (omega (arith, k.shaped.0, l8))), ap length h.lead, k.within l))
+            (λ other. omega (arith, ap length (get_or-set_other s.lanes l j rest [] other), k.within j))
+            (cases_eq j l);
+        deep = omega (arith, length-insert by_ticket r s.in_card, room);
+        timely = least_again s.time (starts s'.lanes);
+      }
 
   pub moves_sound : Sound s → l < 8 → length s.in_card < s.sheet.slots → Sound (record { sheet = s.sheet; time = time'; ends = ends'; lanes = lanes'; in_card = in_card'; arrivals = s.arrivals })
   moves_sound k l8 room =

@@ -11,7 +11,7 @@ use Rattle.books.specs.Model.{State, waiting, flow_is, flow_at, lane_at}
 use Rattle.lanes.specs.declared.lanes.Lanes.{Lanes}
 use Rattle.lanes.specs.declared.table.InCard.{InCard}
 use Rattle.sheet.specs.declared.shape.Sheet.{Sheet}
-use Rattle.books.specs.Sound.{Sound, CountsInCard, CountsWaiting, Shaped, Few, Timed, Tagged, Started, Fresh, Once, Within, Deep, Timely}
+use Rattle.books.specs.Sound.{Sound, CountsInCard, CountsWaiting}
 use Rattle.books.specs.States.{ends_of, state_from}
 use Rattle.books.specs.Views.{state_of}
 use Rattle.books.specs.declared.books.Books.{Books}
@@ -20,28 +20,14 @@ use Rattle.books.proofs.Arrivals.{Right}
 use Rattle.books.proofs.Counts.{few_wait}
 
 pub sound : (b : Books) → Sound (state_of b)
-sound b = (b.shaped, (b.few, (b.timed, (b.tagged, (b.started, (b.fresh, (b.once, (b.within, (b.deep, (b.timely, tt))))))))))
+sound b = b.sound
 
 -- what the ghost fields say of the flows' records and what the books mean, by their names
 abbrev pub Kept : List FlowRecord → State → Type 0
-Kept flows s =
-    record { counts_waiting : CountsWaiting flows s; counts_in_card : CountsInCard flows s; shaped : Shaped s; few : Few s; timed : Timed s; tagged : Tagged s; started : Started s; fresh : Fresh s; once : Once s; within : Within s; deep : Deep s; timely : Timely s }
+Kept flows s = record { counts_waiting : CountsWaiting flows s; counts_in_card : CountsInCard flows s; sound : Sound s }
 
 pub kept : (flows : List FlowRecord) (s : State) → CountsWaiting flows s → CountsInCard flows s → Sound s → Kept flows s
-kept flows s w c k = record {
-  counts_waiting = w;
-  counts_in_card = c;
-  shaped = k.0;
-  few = k.1.0;
-  timed = k.1.1.0;
-  tagged = k.1.1.1.0;
-  started = k.1.1.1.1.0;
-  fresh = k.1.1.1.1.1.0;
-  once = k.1.1.1.1.1.1.0;
-  within = k.1.1.1.1.1.1.1.0;
-  deep = k.1.1.1.1.1.1.1.1.0;
-  timely = k.1.1.1.1.1.1.1.1.1.0;
-}
+kept flows s w c k = record { counts_waiting = w; counts_in_card = c; sound = k }
 
 -- what the ghost fields say of these fields together
 abbrev pub Whole : Sheet → ℕ → List FlowRecord → Lanes → InCard → ℕ → Type 0
@@ -51,7 +37,7 @@ pub whole : (b : Books) → Whole b.sheet b.time b.flows b.lanes b.in_card b.arr
 whole b = kept b.flows (state_of b) b.counts_waiting b.counts_in_card (sound b)
 
 pub sixteen : (b : Books) → length b.flows ≡ 16
-sixteen b = sym (length-map b.flows (λ (x : FlowRecord). x.end)) ∙ b.shaped.1
+sixteen b = sym (length-map b.flows (λ (x : FlowRecord). x.end)) ∙ b.sound.shaped.1
 
 pub end_at : (fs : List FlowRecord) (f : ℕ) (d : FlowRecord) → f < length (ends_of fs) → get_or (ends_of fs) f 0 ≡ (get_or fs f d).end
 end_at fs f d l = get_or-map (λ (x : FlowRecord). x.end) fs f d 0 (omega (arith, l, length-map fs (λ (x : FlowRecord). x.end)))
@@ -106,9 +92,9 @@ pub lane_few : (b : Books) (l : ℕ) → length (lane_at (state_of b) l) ≤ 32
 lane_few b l =
     let ks = take b.sheet.lane_count b.sheet.lanes in
     ⊎_elim
-    (λ (there : l < length ks). let fit = within_true 1 32 (get_or ks l 0) (all_of_at lane_fits ks l 0 b.sheet.lanes_fit there) in omega (arith, b.within l, fit.1))
-    (λ (past : length ks ≤ l). omega (arith, b.within l, get_or_past ks l 0 past))
+    (λ (there : l < length ks). let fit = within_true 1 32 (get_or ks l 0) (all_of_at lane_fits ks l 0 b.sheet.lanes_fit there) in omega (arith, b.sound.within l, fit.1))
+    (λ (past : length ks ≤ l). omega (arith, b.sound.within l, get_or_past ks l 0 past))
     (cases_lt l (length ks))
 
 pub few_waiting : (b : Books) (f : ℕ) → waiting (flow_is f) (state_of b).lanes ≤ 256
-few_waiting b f = few_wait f 8 (state_of b).lanes (omega (arith, b.shaped.0)) (lane_few b)
+few_waiting b f = few_wait f 8 (state_of b).lanes (omega (arith, b.sound.shaped.0)) (lane_few b)

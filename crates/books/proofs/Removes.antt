@@ -56,31 +56,19 @@ with_in_card s c = record { sheet = s.sheet; time = s.time; ends = s.ends; lanes
 pub removed_sound : (s : State) (t : ℕ) (ys : List Request) (r : Option Request) → Removes t s.in_card r ys → Sound s → Sound (with_in_card s ys)
 removed_sound s t ys None h k = subst (λ c. Sound (with_in_card s c)) (sym h.0) k
 removed_sound s t ys (Some x) h k =
-    let fewer : (u : ℕ) → sum_by (ticket_is u) ys ≤ sum_by (ticket_is u) s.in_card = λ u. omega (arith, ap (sum_by (ticket_is u)) h.1, sum_by-insert by_ticket (ticket_is u) x ys) in (
-      k.0,
-      (
-        k.1.0,
-        (
-          k.1.1.0,
-          (
-            k.1.1.1.0,
-            (
-              k.1.1.1.1.0,
-              (
-                (λ u b. omega (arith, k.1.1.1.1.1.0 u b, fewer u)),
-                (
-                  (λ u. omega (arith, k.1.1.1.1.1.1.0 u, fewer u)),
-                  (
-                    k.1.1.1.1.1.1.1.0,
-                    (omega (arith, k.1.1.1.1.1.1.1.1.0, ap length h.1, length-insert by_ticket x ys), (k.1.1.1.1.1.1.1.1.1.0, tt)),
-                  ),
-                ),
-              ),
-            ),
-          ),
-        ),
-      ),
-    )
+    let fewer : (u : ℕ) → sum_by (ticket_is u) ys ≤ sum_by (ticket_is u) s.in_card = λ u. omega (arith, ap (sum_by (ticket_is u)) h.1, sum_by-insert by_ticket (ticket_is u) x ys) in
+    record {
+      shaped = k.shaped;
+      few = k.few;
+      timed = k.timed;
+      tagged = k.tagged;
+      started = k.started;
+      fresh = λ u b. omega (arith, k.fresh u b, fewer u);
+      once = λ u. omega (arith, k.once u, fewer u);
+      within = k.within;
+      deep = omega (arith, k.deep, ap length h.1, length-insert by_ticket x ys);
+      timely = k.timely;
+    }
 
 pub removed_fewer : (s : State) (t : ℕ) (ys : List Request) (r : Option Request) → Removes t s.in_card r ys → MatchOption r (◌≡◌ {A = State} (with_in_card s ys) s) (λ _. length s.in_card ≡ suc (length ys))
 removed_fewer s t ys None h = ap (with_in_card s) h.0

@@ -52,6 +52,15 @@ CountsWaiting fs s = (f : ℕ) → slice_index (map (λ (r : FlowRecord). r.wait
 abbrev pub CountsInCard : List FlowRecord → State → Type 0
 CountsInCard fs s = (f : ℕ) → slice_index (map (λ (r : FlowRecord). r.in_card) fs) f ≡ sum_by (flow_is f) s.in_card
 
--- as the ghost fields list it
-abbrev pub Sound : State → Type 0
-Sound s = Shaped s × (Few s × (Timed s × (Tagged s × (Started s × (Fresh s × (Once s × (Within s × (Deep s × (Timely s × Unit {0})))))))))
+-- all of this of the state alone
+pub record Sound (s : State) : Type 0 where
+  pub shaped : Shaped s
+  pub few : Few s
+  pub timed : Timed s
+  pub tagged : Tagged s
+  pub started : Started s
+  pub fresh : Fresh s
+  pub once : Once s
+  pub within : Within s
+  pub deep : Deep s
+  pub timely : Timely s

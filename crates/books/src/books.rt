@@ -1,6 +1,7 @@
-// The books. The ghost fields say of what the books mean what is true of every board.
+// The books. The ghost fields say of what the books mean what is true of every board. They are no invariant of a model, which would hide them: the laws of
+// runs rest on them wherever a board stands.
 ghost use Rattle.books.specs.States.{state_from};
-ghost use Rattle.books.specs.Sound.{CountsInCard, CountsWaiting, Shaped, Few, Timed, Tagged, Started, Fresh, Once, Within, Deep, Timely};
+ghost use Rattle.books.specs.Sound.{CountsInCard, CountsWaiting, Sound};
 
 use crate::flows::FlowRecord;
 use lanes::lanes::Lanes;
@@ -22,14 +23,5 @@ pub struct Books {
     arrivals: u32,
     ghost counts_waiting: { CountsWaiting flows (state_from sheet time flows lanes in_card arrivals) },
     ghost counts_in_card: { CountsInCard flows (state_from sheet time flows lanes in_card arrivals) },
-    ghost shaped: { Shaped (state_from sheet time flows lanes in_card arrivals) },
-    ghost few: { Few (state_from sheet time flows lanes in_card arrivals) },
-    ghost timed: { Timed (state_from sheet time flows lanes in_card arrivals) },
-    ghost tagged: { Tagged (state_from sheet time flows lanes in_card arrivals) },
-    ghost started: { Started (state_from sheet time flows lanes in_card arrivals) },
-    ghost fresh: { Fresh (state_from sheet time flows lanes in_card arrivals) },
-    ghost once: { Once (state_from sheet time flows lanes in_card arrivals) },
-    ghost within: { Within (state_from sheet time flows lanes in_card arrivals) },
-    ghost deep: { Deep (state_from sheet time flows lanes in_card arrivals) },
-    ghost timely: { Timely (state_from sheet time flows lanes in_card arrivals) },
+    ghost sound: { Sound (state_from sheet time flows lanes in_card arrivals) },
 }

@@ -2,7 +2,7 @@
 ghost use Rattle.std.specs.Prelude.{◌≡◌, ◌+◌, ◌-◌, ◌^◌, ◌<◌, ◌≤◌};
 
 // A flow is one sensor's stream of requests. Its weight and longest request stand in the sheet.
-#[derive(Clone, Copy)]
+#[derive(Clone, Copy, Default)]
 pub struct FlowRecord {
     // The end tag of its last arrival: the next one starts there, or at virtual time.
     pub(crate) end: u64,

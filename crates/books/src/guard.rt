@@ -3,6 +3,7 @@ ghost use Rattle.std.specs.Prelude.{◌≡◌, ◌+◌, ◌^◌, ◌<◌, max};
 
 use crate::flows::FlowRecord;
 
+// Each clause `named` says which record is lent: the way out that puts it back is proved by that.
 pub(crate) struct FlowGuard<'a> {
     flow: &'a mut FlowRecord,
     before: FlowRecord,

@@ -28,7 +28,7 @@ pub enum Refusal {
 }
 
 impl Refusal {
-    // The refusal's number.
+    // The refusal's number. Two refusals carry values, so no cast tells it.
     pub fn number(&self) -> u8
         ensures { result ≡ number_of self.now }
     {

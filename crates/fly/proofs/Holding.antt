@@ -214,7 +214,7 @@ module _ {C : Type 0} (cards : Ghosts C) where
   tie_step o s s' c c' Reap a k st tie =
       tie_to o Reap st.3 st.4
       (λ e. subst (λ t. (told Reap (Reaped (reap_rule t st.0).0) ≡ share.nothing) × ((reap_rule t st.0).1 ≡ empty blank)) (sym e) (idle st.0))
-      (λ tied. reap_tied cards.DEPTH s (cards.held c) (cards.held c') st.0 (λ t. omega (arith, k.1.1.1.1.1.1.0 t)) tied st.1) tie
+      (λ tied. reap_tied cards.DEPTH s (cards.held c) (cards.held c') st.0 (λ t. omega (arith, k.once t)) tied st.1) tie
   tie_step o s s' c c' Time a k st tie = subst (λ x. Tie cards.DEPTH (sheet_after o (told Time a)) s' (cards.held x)) (sym st.2) (tie_to o Time st.0 st.1 (λ e. (refl, e)) (λ tied. tied) tie)
   tie_step o s s' c c' Ready a k st tie = subst (λ x. Tie cards.DEPTH (sheet_after o (told Ready a)) s' (cards.held x)) (sym st.2) (tie_to o Ready st.0 st.1 (λ e. (refl, e)) (λ tied. tied) tie)
   tie_step o s s' c c' (Flow f) a k st tie = subst (λ x. Tie cards.DEPTH (sheet_after o (told (Flow f) a)) s' (cards.held x)) (sym st.2) (tie_to o (Flow f) st.0 st.1 (λ e. (refl, e)) (λ tied. tied) tie)

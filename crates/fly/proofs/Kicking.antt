@@ -27,8 +27,8 @@ takes : (depth : ℕ) (held : List Command) (s : State) (k : ℕ) (r : Request) 
 takes depth held s k r rest sound tie k8 lane room =
     let t = r.ticket in
     let one : (c : Command) → ℕ = λ c. cond (eqb c.ticket t) 1 0 in
-    let once = sound.1.1.1.1.1.1.0 t in
-    let waits = waiting_less (ticket_is t) s.lanes k r rest (omega (arith, sound.0.0, k8)) lane in
+    let once = sound.once t in
+    let waits = waiting_less (ticket_is t) s.lanes k r rest (omega (arith, sound.shaped.0, k8)) lane in
     let none : tally t held ≡ 0 = omega (arith, tally-sum t held, tie.same one, once, waits, cond-true {A = ℕ} (eqb r.ticket t) 1 0 (eq-eqb t t refl)) in
     let free : among t held ≡ false = among-tally t held ∙ le-ltb 0 (tally t held) (omega (arith, none)) in
     let all : length held ≡ length s.in_card = sym (ones held) ∙ tie.same (λ _. 1) ∙ ones s.in_card in

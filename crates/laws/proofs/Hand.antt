@@ -22,6 +22,6 @@ first P (j ∷ js) h a = (j, refl, a.0)
 pub kicks_hand_lem : KicksHand
 kicks_hand_lem depth held s l k there some room =
     let all : AllByRecursion (λ j. (j < 8) × (ready s j ≡ true)) (ready_lanes s l) = AllByRecursion-sorted (λ j. distance l j ∷ j ∷ []) (λ j. (j < 8) × (ready s j ≡ true)) (filter (ready s) eight) (all_kept (ready s) (λ j. (j < 8) × (ready s j ≡ true)) eight (each (λ j. ready s j ≡ true → (j < 8) × (ready s j ≡ true)) (λ j b t. (b, t)))) in
-    let near = first (λ j. (j < 8) × (ready s j ≡ true)) (ready_lanes s l) (some_ready s l k.0.0 k.1.1.1.1.1.1.1.1.1.0 some) all in
+    let near = first (λ j. (j < 8) × (ready s j ≡ true)) (ready_lanes s l) (some_ready s l k.shaped.0 k.timely some) all in
     let led = lead s (lane_at s near.0) near.2.1 in
     (near.0, near.2.0, led.0, led.1, led.2, kicks depth held s l near.0 led.0 led.1 there some room near.1 led.2)

@@ -38,8 +38,8 @@ arrives s f l n k fair f< l< some most' =
     let s' = entered s l r in
     let heavy = fair.2 f f< in
     let gains : IsPermutation (request_of r ∷ waiting_of s.lanes) (waiting_of s'.lanes) = requests_from_sums (request_of r ∷ waiting_of s.lanes) (waiting_of s'.lanes)
-    (λ g. omega (arith, sum_by-cons g (request_of r) (waiting_of s.lanes), waiting_sums g s.lanes, waiting_sums g s'.lanes, waiting_more (λ (q : Request). g (request_of q)) s.lanes l r (omega (arith, k.0.0, fair.1, l<)))) in
-    let timely = k.1.1.1.1.1.1.1.1.1.0 in
+    (λ g. omega (arith, sum_by-cons g (request_of r) (waiting_of s.lanes), waiting_sums g s.lanes, waiting_sums g s'.lanes, waiting_more (λ (q : Request). g (request_of q)) s.lanes l r (omega (arith, k.shaped.0, fair.1, l<)))) in
+    let timely = k.timely in
     let over : AllByRecursion (λ (q : share.Request). s.time ≤ q.start) (waiting_of s.lanes) = all_over s.time s.lanes (subst (λ v. AllByRecursion (λ n. v ≤ n) (starts s.lanes)) timely (least_under s.time (starts s.lanes))) fair.3 in
     let over' : AllByRecursion (λ (q : share.Request). s.time ≤ q.start) (waiting_of s'.lanes) = all_shuffled (λ (q : share.Request). s.time ≤ q.start) (request_of r ∷ waiting_of s.lanes) (waiting_of s'.lanes) gains (omega arith, over) in
     record {
@@ -49,7 +49,7 @@ arrives s f l n k fair f< l< some most' =
       most = laws.never_falls n (flow_at s f).longest (flow_at s f).weight heavy most';
       starts = refl;
       ends = refl;
-      tag = get_or-set_same s.ends f _ 0 (omega (arith, k.0.1, fair.0, f<));
+      tag = get_or-set_same s.ends f _ 0 (omega (arith, k.shaped.1, fair.0, f<));
       tags = λ j other. get_or-set_other s.ends f j _ 0 other;
       count = refl;
       waiting = gains;

@@ -39,10 +39,10 @@ sends : (s : State) (l : ℕ) (r : Request) (rest : List Request) → Sound s �
 sends s l r rest k fair lane l8 near room =
     let s' = moved_from s l (r ∷ rest) in
     let loses : IsPermutation (waiting_of s.lanes) (request_of r ∷ waiting_of s'.lanes) = requests_from_sums (waiting_of s.lanes) (request_of r ∷ waiting_of s'.lanes)
-    (λ g. omega (arith, sum_by-cons g (request_of r) (waiting_of s'.lanes), waiting_sums g s.lanes, waiting_sums g s'.lanes, waiting_less (λ (q : Request). g (request_of q)) s.lanes l r rest (omega (arith, k.0.0, l8)) lane)) in
+    (λ g. omega (arith, sum_by-cons g (request_of r) (waiting_of s'.lanes), waiting_sums g s.lanes, waiting_sums g s'.lanes, waiting_less (λ (q : Request). g (request_of q)) s.lanes l r rest (omega (arith, k.shaped.0, l8)) lane)) in
     let gains : IsPermutation (request_of r ∷ map request_of s.in_card) (map request_of s'.in_card) = requests_from_sums (request_of r ∷ map request_of s.in_card) (map request_of s'.in_card)
     (λ g. omega (arith, sum_by-cons g (request_of r) (map request_of s.in_card), sum_by-map request_of g s.in_card, sum_by-map request_of g s'.in_card, sum_by-insert by_ticket (λ (q : Request). g (request_of q)) r s.in_card)) in
-    let timely = k.1.1.1.1.1.1.1.1.1.0 in
+    let timely = k.timely in
     let over : AllByRecursion (λ (q : share.Request). s.time ≤ q.start) (waiting_of s.lanes) = all_over s.time s.lanes (subst (λ v. AllByRecursion (λ n. v ≤ n) (starts s.lanes)) timely (least_under s.time (starts s.lanes))) fair.3 in
     let over' = (all_shuffled (λ (q : share.Request). s.time ≤ q.start) (waiting_of s.lanes) (request_of r ∷ waiting_of s'.lanes) loses over).1 in
     let tail : Ordered by_start rest = (subst (Ordered by_start) lane (all_at (Ordered by_start) s.lanes l fair.3 tt)).1 in
@@ -124,7 +124,7 @@ reaps_step_lem s (Some d) k = go (found d.0 s.in_card) refl
     go : (o : Option Request) → found d.0 s.in_card ≡ o → step.Step (books_of s) (finished_by (reap_found s d.0 d.1 o).0) (books_of (reap_found s d.0 d.1 o).1)
     go None e = rests s
     go (Some q) e =
-        let p = found_sums d.0 s.in_card q e (omega (arith, k.1.1.1.1.1.1.0 d.0)) in (
+        let p = found_sums d.0 s.in_card q e (omega (arith, k.once d.0)) in (
           shares_of s.sheet,
           refl,
           request_of q,

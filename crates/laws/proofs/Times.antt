@@ -37,6 +37,6 @@ pub time_is_least_lem : TimeIsLeast
 time_is_least_lem b =
     let s = state_of b in
     record {
-      least = all_over s.time s.lanes (subst (λ v. AllByRecursion (λ n. v ≤ n) (starts s.lanes)) b.timely (least_under s.time (starts s.lanes))) (books_fair_lem b).3;
-      attained = λ some. let p = attained s.time s.lanes some in (p.0, p.1, p.2 ∙ b.timely);
+      least = all_over s.time s.lanes (subst (λ v. AllByRecursion (λ n. v ≤ n) (starts s.lanes)) b.sound.timely (least_under s.time (starts s.lanes))) (books_fair_lem b).3;
+      attained = λ some. let p = attained s.time s.lanes some in (p.0, p.1, p.2 ∙ b.sound.timely);
     }

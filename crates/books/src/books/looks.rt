@@ -18,15 +18,10 @@ impl Books {
     pub fn new(sheet: Sheet) -> Books
         ensures { state_of result ≡ empty (content_of sheet) }
     {
-        let none = FlowRecord {
-            end: 0,
-            waiting: 0,
-            in_card: 0,
-        };
         Books {
             sheet,
             time: 0,
-            flows: [none; 16],
+            flows: [FlowRecord::default(); 16],
             lanes: Lanes::new(),
             in_card: InCard::new(),
             arrivals: 0,
@@ -43,9 +38,7 @@ impl Books {
     pub fn lead(&self, lane: u32) -> Result<Option<Request>, Refusal>
         ensures { result ≡ lead_rule (state_of self.now) lane }
     {
-        let Some(_) = self.sheet.lane(lane) else {
-            return Err(Refusal::NoLane);
-        };
+        self.sheet.lane(lane).ok_or(Refusal::NoLane)?;
         Ok(self.lanes.lead(lane as usize))
     }
 
@@ -75,13 +68,11 @@ impl Books {
         self.lanes.any()
     }
 
-    // What a flow has.
+    // What a flow has: its share is the sheet's, and the rest the record's, so that each part is named.
     pub fn flow(&self, flow: u32) -> Result<FlowState, Refusal>
         ensures { result ≡ flow_rule (state_of self.now) flow }
     {
-        let Some(share) = self.sheet.flow(flow) else {
-            return Err(Refusal::NoFlow);
-        };
+        let share = self.sheet.flow(flow).ok_or(Refusal::NoFlow)?;
         let record = self.flows[flow as usize];
         Ok(FlowState {
             weight: share.weight,

@@ -28,9 +28,7 @@ impl Books {
         ensures fewer { MatchOption result (state_of self.new ≡ state_of self.old) (λ _. length (state_of self.old).in_card ≡ suc (length (state_of self.new).in_card)) }
         ensures state { state_of self.new ≡ finished (state_of self.old) ticket }
     {
-        let Some(request) = self.in_card.remove(ticket) else {
-            return None;
-        };
+        let request = self.in_card.remove(ticket)?;
         self.flows[request.flow as usize].finish_one();
         Some(request)
     }

@@ -12,13 +12,12 @@ impl Books {
     fn is_ready(&self, lane: usize) -> bool
         ensures { result ≡ ready (state_of self.now) lane }
     {
-        match self.lanes.lead(lane) {
-            Some(lead) => lead.start <= self.reach(),
-            None => false,
-        }
+        self.lanes
+            .lead(lane)
+            .is_some_and(|lead| lead.start <= self.reach())
     }
 
-    // Bit i for lane i.
+    // Bit k for lane k: a lane's number is also the place of its bit.
     pub fn ready(&self) -> u8
         ensures { (k : ℕ) → k < 8 → (result / 2 ^ k % 2 == 1) ≡ ready (state_of self.now) k }
     {
@@ -35,12 +34,8 @@ impl Books {
     pub fn nearest_lead(&self, lane: u32) -> Option<(u32, Request)>
         ensures { MatchOption result (lane < 8 → ready_lanes (state_of self.now) lane ≡ []) (λ p. (lane < 8) × (p.0 < 8) × (head_of (ready_lanes (state_of self.now) lane) ≡ Some p.0) × (head_of (lane_at (state_of self.now) p.0) ≡ Some p.1)) }
     {
-        let Some(k) = nearest(lane, self.ready()) else {
-            return None;
-        };
-        let Some(lead) = self.lanes.lead(k as usize) else {
-            return None;
-        };
+        let k = nearest(lane, self.ready())?;
+        let lead = self.lanes.lead(k as usize)?;
         Some((k, lead))
     }
 }

@@ -1,6 +1,7 @@
 use Rattle.std.proofs.Common.{◌<◌, leb, length, get_or, Ok, sym, ◌∙◌, arith}
 use Rattle.std.proofs.lemmas.List.{get_or-map}
 use Rattle.std.proofs.lemmas.Bool.{cond-false, lt-leb}
+use Rattle.std.proofs.lemmas.Option.{MatchOption-at_some}
 use Rattle.books.specs.Views.{state_of}
 use Rattle.books.specs.declared.flows.FlowRecord.{FlowRecord}
 use Rattle.books.proofs.Opened.{sixteen}
@@ -11,7 +12,7 @@ returns c =
     let b = c.args.self.now in
     let f = c.args.flow in
     let s = state_of b in
-    let share = c.in-Some.ensures in
+    let share = MatchOption-at_some _ _ c.in_ok-share.share c.in_ok-share.ensures.ok_part c.flow.ensures in
     let none : FlowRecord = record { end = 0; waiting = 0; in_card = 0 } in
     let x = get_or b.flows f none in
     let there : f < length b.flows = omega (arith, sixteen b, share.few) in

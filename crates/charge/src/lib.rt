@@ -16,7 +16,7 @@ pub fn charge(length: u32, weight: u32) -> Option<u32>
     ensures value { result ≡ charge_for length weight }
     ensures bounds { IfSome result (λ c. (1 ≤ c) × (c ≤ 1720320)) }
 {
-    if length < 1 || length > LONGEST || weight < 1 || weight > HEAVIEST {
+    if !(1..=LONGEST).contains(&length) || !(1..=HEAVIEST).contains(&weight) {
         return None;
     }
     Some((SCALE * length).div_ceil(weight))

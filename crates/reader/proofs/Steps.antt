@@ -61,28 +61,3 @@ cut_here b s i e h =
     let z : i - 0 ≡ i = omega arith in
     let k : before b s < length s = omega arith in
     rw (z, take_rest) (subst (λ j. Some (take j s, drop (j + 1) s) ≡ cut_at b s) (sym e) (cond_below (before b s) (length s) _ None k))
-
-pub lettered_is : (l : List ℕ) → 2 ≤ length l → get_or l 1 0 ≡ 32 → lettered_of l ≡ option_map (λ n. (get_or l 0 0, n)) (number_of (take (length l - 2) (drop 2 l)))
-lettered_is [] h e = absurd (omega arith)
-lettered_is (x ∷ []) h e = absurd (omega arith)
-lettered_is (x ∷ y ∷ ds) h e = cond-true (eqb y 32) (option_map (λ n. (x, n)) (number_of ds)) None (eq-eqb y 32 e) ∙ ap (λ q. option_map (λ n. (x, n)) (number_of q)) (sym (take_rest (x ∷ y ∷ ds) 2))
-
--- what comes after the first b
-pub cut_after : (b : ℕ) (s l a : List ℕ) → Some (l, a) ≡ cut_at b s → a ≡ drop (length l + 1) s
-cut_after b s l a e =
-    ⊎_elim
-    (λ h.
-    let both = e ∙ cond-true (ltb (before b s) (length s)) (Some (take (before b s) s, drop (before b s + 1) s)) None (lt-ltb _ _ h) in
-    let parts : ◌≡◌ {A = List ℕ × List ℕ} (l, a) (take (before b s) s, drop (before b s + 1) s) = cc in
-    let front : l ≡ take (before b s) s = ap (λ (p : List ℕ × List ℕ). p.0) parts in
-    let back : a ≡ drop (before b s + 1) s = ap (λ (p : List ℕ × List ℕ). p.1) parts in
-    let long : length l ≡ before b s = ap length front ∙ length-take-le _ s (omega arith) in
-    back ∙ ap (λ n. drop (n + 1) s) (sym long))
-    (λ h. let both = e ∙ cond-false (ltb (before b s) (length s)) (Some (take (before b s) s, drop (before b s + 1) s)) None (le-ltb _ _ h) in let z : ◌≡◌ {A = ℕ} 0 1 = cc in absurd (omega arith))
-    (cases_lt (before b s) (length s))
-
--- a line is taken from what is left at a place
-pub line_taken : (bytes : List ℕ) (at : ℕ) (l a : List ℕ) → Some (l, a) ≡ cut_at 10 (take (length bytes - at) (drop at bytes)) → cut_at 10 (drop at bytes) ≡ Some (l, drop (at + (length l + 1)) bytes)
-line_taken bytes at l a e =
-    let here : Some (l, a) ≡ cut_at 10 (drop at bytes) = rw take_rest at e in
-    sym here ∙ ap (λ r. Some (l, r)) (cut_after 10 _ l a here ∙ drop-drop (length l + 1) at bytes)

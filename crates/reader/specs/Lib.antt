@@ -1,4 +1,5 @@
 pub mod Lines
+pub mod Letters
 pub mod Format
 pub mod Views
 pub mod Verdict

@@ -1,6 +1,6 @@
 // What one line says.
 ghost use Rattle.std.specs.Prelude.{◌≡◌, ◌≤◌, IfOk, ◌==◌};
-ghost use Rattle.reader.specs.Lines.{count_of, earlier, letter_of, lettered_of, line_into, most_of, number_of, pair_of, parameter_of};
+ghost use Rattle.reader.specs.Lines.{count_of, lettered_of, line_into, most_of, number_of, pair_of};
 ghost use Rattle.reader.specs.Views.{Adds, draft_of};
 
 use crate::cut::cut;
@@ -50,41 +50,16 @@ fn lettered(line: &[u8]) -> Option<(u8, u64)>
     }
 }
 
-// Whether a section begins with that letter.
-fn heads(letter: u8, due: Section) -> bool
-    ensures { result ≡ (letter == letter_of due) }
-{
-    match (char::from(letter), due) {
-        ('F', Section::Flows) => true,
-        ('L', Section::Lanes) => true,
-        ('P', Section::Params) => true,
-        _ => false,
-    }
-}
-
-// How many lines a section may have after its first.
-fn most(due: Section) -> u64
-    ensures { result ≡ most_of due }
-{
-    match due {
-        Section::Flows => 16,
-        Section::Lanes => 8,
-        Section::Params => 2,
-    }
-}
-
 // A section's first line: how many lines follow.
 pub(crate) fn count_of(line: &[u8], due: Section) -> Result<usize, Refusal>
     ensures value { result ≡ count_of due line.now }
     ensures fits { IfOk result (λ n. n ≤ most_of due) }
 {
-    let Some((letter, n)) = lettered(line) else {
-        return Err(Refusal::Form);
-    };
-    if !heads(letter, due) {
+    let (letter, n) = lettered(line).ok_or(Refusal::Form)?;
+    if Section::try_from(letter)? != due {
         return Err(Refusal::Form);
     }
-    if n > most(due) {
+    if n > due.most() {
         return Err(Refusal::Range);
     }
     Ok(n as usize)
@@ -93,9 +68,7 @@ pub(crate) fn count_of(line: &[u8], due: Section) -> Result<usize, Refusal>
 fn add_flow(line: &[u8], draft: &mut Draft) -> Result<(), Refusal>
     ensures { Adds result draft.new (line_into Section.Flows (draft_of draft.old) line.now) }
 {
-    let Some((weight, longest)) = pair(line) else {
-        return Err(Refusal::Form);
-    };
+    let (weight, longest) = pair(line).ok_or(Refusal::Form)?;
     draft.sheet.push_flow(weight, longest)?;
     Ok(())
 }
@@ -103,45 +76,17 @@ fn add_flow(line: &[u8], draft: &mut Draft) -> Result<(), Refusal>
 fn add_lane(line: &[u8], draft: &mut Draft) -> Result<(), Refusal>
     ensures { Adds result draft.new (line_into Section.Lanes (draft_of draft.old) line.now) }
 {
-    let Some(capacity) = number(line) else {
-        return Err(Refusal::Form);
-    };
+    let capacity = number(line).ok_or(Refusal::Form)?;
     draft.sheet.push_lane(capacity)?;
     Ok(())
-}
-
-// The parameter that a letter stands for.
-fn parameter(letter: u8) -> Option<Parameter>
-    ensures { result ≡ parameter_of letter }
-{
-    match char::from(letter) {
-        'D' => Some(Parameter::Slots),
-        'T' => Some(Parameter::Threshold),
-        _ => None,
-    }
-}
-
-// Whether a parameter comes later in the order D, T than the last one, if any.
-fn follows(last: Option<Parameter>, next: Parameter) -> bool
-    ensures { result ≡ earlier last next }
-{
-    match (last, next) {
-        (None, _) => true,
-        (Some(Parameter::Slots), Parameter::Threshold) => true,
-        _ => false,
-    }
 }
 
 fn add_param(line: &[u8], draft: &mut Draft) -> Result<(), Refusal>
     ensures { Adds result draft.new (line_into Section.Params (draft_of draft.old) line.now) }
 {
-    let Some((letter, n)) = lettered(line) else {
-        return Err(Refusal::Form);
-    };
-    let Some(next) = parameter(letter) else {
-        return Err(Refusal::Form);
-    };
-    if !follows(draft.last, next) {
+    let (letter, n) = lettered(line).ok_or(Refusal::Form)?;
+    let next = Parameter::try_from(letter)?;
+    if !draft.last.is_none_or(|last| last < next) {
         return Err(Refusal::Order);
     }
     match next {

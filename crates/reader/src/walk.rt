@@ -13,16 +13,6 @@ use crate::fault::{Refusal, SheetFault};
 use crate::line::{add_line, count_of};
 use sheet::shape::Sheet;
 
-// Says at which line a refusal is.
-fn placed<T>(r: Result<T, Refusal>, line: u32) -> Result<T, SheetFault>
-    ensures { result ≡ result_map_both (λ x. x) (λ why. fault why line) r }
-{
-    match r {
-        Ok(v) => Ok(v),
-        Err(refusal) => Err(SheetFault { refusal, line }),
-    }
-}
-
 impl<'a> Cursor<'a> {
     pub(crate) fn new(bytes: &'a [u8]) -> Cursor<'a>
         requires { length bytes.now ≤ 256 }
@@ -40,12 +30,10 @@ impl<'a> Cursor<'a> {
         ensures { Takes result self.old self.new }
     {
         let rest = &self.bytes[self.at..];
-        let Some((line, _)) = cut(rest, b'\n') else {
-            return Err(SheetFault {
-                refusal: Refusal::Form,
-                line: self.line,
-            });
-        };
+        let (line, _) = cut(rest, b'\n').ok_or(SheetFault {
+            refusal: Refusal::Form,
+            line: self.line,
+        })?;
         self.at += line.len() + 1;
         self.line += 1;
         Ok(line)
@@ -56,18 +44,18 @@ impl<'a> Cursor<'a> {
         ensures value { Gives (λ n. n) result self.new (line_as (count_of due) (rest_of self.old) self.old.line) }
         ensures fits { IfOk result (λ n. n ≤ most_of due) }
     {
-        let k = self.line;
-        let line = self.take_line()?;
-        placed(count_of(line, due), k)
+        let line = self.line;
+        let text = self.take_line()?;
+        count_of(text, due).map_err(|refusal| SheetFault { refusal, line })
     }
 
     // Takes one of a section's further lines.
     fn entry(&mut self, due: Section, draft: &mut Draft) -> Result<(), SheetFault>
         ensures { Gives (λ _. draft_of draft.new) result self.new (line_as (line_into due (draft_of draft.old)) (rest_of self.old) self.old.line) }
     {
-        let k = self.line;
-        let line = self.take_line()?;
-        placed(add_line(line, due, draft), k)
+        let line = self.line;
+        let text = self.take_line()?;
+        add_line(text, due, draft).map_err(|refusal| SheetFault { refusal, line })
     }
 
     // Takes a section.

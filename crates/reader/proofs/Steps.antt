@@ -1,11 +1,12 @@
 -- The steps of the loops over a line's bytes.
-use Rattle.std.proofs.Common.{◌≡◌, ℕ, ◌+◌, ◌-◌, ◌*◌, ◌^◌, ◌<◌, ◌≤◌, not, ◌&&◌, eqb, ltb, ◌⊎◌, List, [], ◌∷◌, length, get_or, take, drop, Some, None, Option, cond, sym, refl, ap, ◌∙◌, subst, ⊎_elim, pow-suc, add-one, add_comm, arith}
-use Rattle.std.proofs.lemmas.List.{at_drop_more, at_drop_all, take_rest, length-take-le, drop-drop}
-use Rattle.std.proofs.lemmas.Bool.{cond-true, cond-false, cond_both, ne_eqb, eq-eqb, le-leb, lt-leb, le-ltb, lt-ltb, cond_below, cases_lt, and_from, and_left, and_right, not_from_false}
+use Rattle.std.proofs.Common.{◌≡◌, ℕ, ◌+◌, ◌-◌, ◌*◌, ◌^◌, ◌<◌, ◌≤◌, not, ◌&&◌, eqb, ltb, leb, ◌⊎◌, List, [], ◌∷◌, length, get_or, take, drop, Some, None, Option, cond, sym, refl, ap, ◌∙◌, subst, ⊎_elim, pow-suc, add-one, add_comm, arith}
+use Rattle.std.proofs.Math.Nat.{pow-le-pow_right}
+use Rattle.std.proofs.lemmas.List.{at_drop_more, at_drop_all, take_rest}
+use Rattle.std.proofs.lemmas.Bool.{cond-true, cond-false, cond_both, ne_eqb, eq-eqb, le-leb, le-ltb, cond_below, and_from, and_parts, and_left, and_right, not_from_false, cases_Bool, leb-true, lt-ltb}
 use Rattle.std.specs.Option.{option_map}
 use Rattle.std.specs.List.{position, position_or_len}
 use Rattle.std.proofs.lemmas.List.Recursion.{is_position_or_len}
-use Rattle.reader.specs.Lines.{before, cut_at, is_digit, digits_from, sized, padded, number_of, lettered_of}
+use Rattle.reader.specs.Lines.{before, cut_at, is_digit, digits_from, value_below, sized, padded, number_of}
 
 pub before_on : (b : ℕ) (xs : List ℕ) (i : ℕ) → i < length xs → (get_or xs i 0 ≡ b → ⊥) → before b (drop i xs) ≡ before b (drop (i + 1) xs) + 1
 before_on b xs i h ne = at_drop_more (before b) xs i 0 h ∙ cond-false (eqb (get_or xs i 0) b) 0 (before b (drop (i + 1) xs) + 1) (ne_eqb _ _ ne)
@@ -15,19 +16,6 @@ before_here b xs i h e = at_drop_more (before b) xs i 0 h ∙ cond-true (eqb (ge
 
 pub before_end : (b : ℕ) (xs : List ℕ) (i : ℕ) → length xs ≤ i → before b (drop i xs) ≡ 0
 before_end b xs i h = at_drop_all (before b) xs i h
-
-pub digits_on : (n : ℕ) (xs : List ℕ) (i : ℕ) → i < length xs → 48 ≤ get_or xs i 0 → get_or xs i 0 ≤ 57 → digits_from n (drop i xs) ≡ digits_from (n * 10 + (get_or xs i 0 - 48)) (drop (i + 1) xs)
-digits_on n xs i h lo hi = at_drop_more (digits_from n) xs i 0 h ∙ cond-true (is_digit (get_or xs i 0)) _ _ (and_from _ _ (le-leb _ _ lo) (le-leb _ _ hi))
-
-pub digits_off : (n : ℕ) (xs : List ℕ) (i : ℕ) → i < length xs → (get_or xs i 0 < 48) ⊎ (57 < get_or xs i 0) → digits_from n (drop i xs) ≡ None
-digits_off n xs i h o =
-    at_drop_more (digits_from n) xs i 0 h ∙ cond-false (is_digit (get_or xs i 0)) _ _ (⊎_elim (λ lo. and_left _ _ (lt-leb _ _ lo)) (λ hi. and_right _ _ (lt-leb _ _ hi)) o)
-
-pub digits_end : (n : ℕ) (xs : List ℕ) (i : ℕ) → length xs ≤ i → digits_from n (drop i xs) ≡ Some n
-digits_end n xs i h = at_drop_all (digits_from n) xs i h
-
-pub number_none : (ds : List ℕ) → digits_from 0 ds ≡ None → None ≡ number_of ds
-number_none ds e = cond_both (sized ds && not (padded ds)) (digits_from 0 ds) None (λ o. None ≡ o) (λ _. sym e) (λ _. refl)
 
 pub number_is : (ds : List ℕ) → 1 ≤ length ds → length ds ≤ 10 → (length ds ≤ 1) ⊎ (get_or ds 0 0 ≡ 48 → ⊥) → number_of ds ≡ digits_from 0 ds
 number_is ds lo hi o =
@@ -61,3 +49,18 @@ cut_here b s i e h =
     let z : i - 0 ≡ i = omega arith in
     let k : before b s < length s = omega arith in
     rw (z, take_rest) (subst (λ j. Some (take j s, drop (j + 1) s) ≡ cut_at b s) (sym e) (cond_below (before b s) (length s) _ None k))
+
+-- so ten digits stay below 10 ^ 10
+pub below_ten : (i n : ℕ) (ds : List ℕ) → n < 10 ^ i → i + length ds ≤ 10 → value_below (10 ^ 10) n ds ≡ digits_from n ds
+below_ten i n [] h l = refl
+below_ten i n (b ∷ bs) h l =
+    let next = n * 10 + (b - 48) in
+    ⊎_elim
+    (λ d.
+    let small : next < 10 ^ (i + 1) = digit_fits n i (b - 48) h (omega (arith, leb-true b 57 (and_parts (leb 48 b) (leb b 57) d).1)) in
+    let most : 10 ^ (i + 1) ≤ 10 ^ 10 = pow-le-pow_right {n = 10} (omega arith) {i = i + 1} {j = 10} (omega arith) in
+    cond-true (is_digit b && ltb next (10 ^ 10)) (value_below (10 ^ 10) next bs) None (and_from _ _ d (lt-ltb _ _ (omega arith)))
+    ∙ below_ten (i + 1) next bs small (omega arith)
+    ∙ sym (cond-true (is_digit b) (digits_from next bs) None d))
+    (λ d. cond-false (is_digit b && ltb next (10 ^ 10)) (value_below (10 ^ 10) next bs) None (and_left _ _ d) ∙ sym (cond-false (is_digit b) (digits_from next bs) None d))
+    (cases_Bool (is_digit b))

@@ -26,6 +26,11 @@ abbrev pub digits_from : ℕ → List ℕ → Option ℕ
 digits_from n [] = Some n
 digits_from n (b ∷ bs) = cond (is_digit b) (digits_from (n * 10 + (b - 48)) bs) None
 
+-- the same, as long as it stays below a limit
+abbrev pub value_below : ℕ → ℕ → List ℕ → Option ℕ
+value_below limit n [] = Some n
+value_below limit n (b ∷ bs) = cond (is_digit b && nat_lt (n * 10 + (b - 48)) limit) (value_below limit (n * 10 + (b - 48)) bs) None
+
 -- a number has 1 to 10 digits
 abbrev pub sized : List ℕ → Bool
 sized ds = nat_le 1 (length ds) && nat_le (length ds) 10

@@ -9,6 +9,7 @@ ghost use Rattle.reader.specs.Views.{Reads};
 
 mod cursor;
 pub mod cut;
+pub mod digits;
 mod draft;
 pub mod fault;
 mod line;

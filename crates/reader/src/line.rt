@@ -4,6 +4,7 @@ ghost use Rattle.reader.specs.Lines.{count_of, lettered_of, line_into, most_of, 
 ghost use Rattle.reader.specs.Views.{Adds, draft_of};
 
 use crate::cut::cut;
+use crate::digits::value;
 use crate::draft::{Draft, Parameter, Section};
 use crate::fault::Refusal;
 
@@ -17,14 +18,7 @@ fn number(s: &[u8]) -> Option<u64>
     if s.len() > 1 && s[0] == b'0' {
         return None;
     }
-    let mut n: u64 = 0;
-    for b in s {
-        if *b < b'0' || *b > b'9' {
-            return None;
-        }
-        n = n * 10 + u64::from(*b - b'0');
-    }
-    Some(n)
+    value(s, 10_000_000_000)
 }
 
 // `w m`: two numbers.
@@ -32,9 +26,7 @@ fn pair(line: &[u8]) -> Option<(u64, u64)>
     ensures { result ≡ pair_of line.now }
 {
     let (left, right) = cut(line, b' ')?;
-    let w = number(left)?;
-    let m = number(right)?;
-    Some((w, m))
+    Some((number(left)?, number(right)?))
 }
 
 // `X n`: a byte, a space and a number.
@@ -42,10 +34,7 @@ fn lettered(line: &[u8]) -> Option<(u8, u64)>
     ensures { result ≡ lettered_of line.now }
 {
     match line {
-        [letter, b' ', digits @ ..] => {
-            let n = number(digits)?;
-            Some((*letter, n))
-        }
+        [letter, b' ', digits @ ..] => Some((*letter, number(digits)?)),
         _ => None,
     }
 }

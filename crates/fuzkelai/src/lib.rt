@@ -17,6 +17,7 @@ fn answer_for(bytes: &[u8]) -> u32
     let mut sheet = Sheet::new();
     match read(bytes, &mut sheet) {
         Ok(()) => 0,
+        // One number for both, since a C program gets no more.
         Err(fault) => fault.refusal.number() * 1000 + fault.line,
     }
 }
@@ -36,10 +37,7 @@ pub extern "C" fn fuzkelai_charge(length: u32, weight: u32) -> u32
     ensures value { result ≡ charge_or_zero length weight }
     ensures zero { (within 1 2048 length && within 1 100 weight) ≡ true → result ≢ 0 }
 {
-    match charge::charge(length, weight) {
-        Some(charge) => charge,
-        None => 0,
-    }
+    charge::charge(length, weight).unwrap_or(0)
 }
 
 #[cfg(test)]

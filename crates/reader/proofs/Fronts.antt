@@ -1,10 +1,11 @@
--- The first 257 bytes decide what is read.
-use Rattle.std.proofs.Common.{◌≡◌, ℕ, ◌<◌, ltb, List, length, take, IfOk, Ok, Err, Result, sym, ap, ◌∙◌, ⊎_elim, arith}
+-- The first 257 bytes decide what is read, and what is printed of it.
+use Rattle.std.proofs.Common.{◌≡◌, ℕ, ◌<◌, ltb, List, ◌++◌, length, take, codes, decimal, append_assoc, IfOk, Ok, Err, Result, sym, ap, ◌∙◌, ⊎_elim, arith}
 use Rattle.std.proofs.lemmas.List.{take_all, length-take-le}
 use Rattle.std.proofs.lemmas.Bool.{cases_lt, cond-true, lt-ltb}
 use Rattle.reader.specs.declared.fault.Refusal.TheVariants.{TooLong}
 use Rattle.reader.specs.Format.{read_sheet, sheet_from, fault}
-use Rattle.reader.specs.Verdict.{line_for}
+use Rattle.reader.specs.declared.fault.SheetFault.{SheetFault}
+use Rattle.reader.specs.Verdict.{fault_text, line_for, refusal_number}
 
 pub too_long : (bytes : List ℕ) → 256 < length bytes → read_sheet bytes ≡ Err (fault TooLong 0)
 too_long bytes h = cond-true (ltb 256 (length bytes)) _ (sheet_from bytes 1) (lt-ltb _ _ h)
@@ -18,3 +19,13 @@ front_decides bytes input e =
 pub said_of_all : {X Y : Type 0} (text : X → List ℕ) (r : Result X Y) (bytes : List ℕ) → IfOk r (λ s. text s ≡ line_for (read_sheet bytes)) → IfOk r (λ s. (input : List ℕ) → take 257 input ≡ bytes → text s ≡ line_for (read_sheet input))
 said_of_all text (Ok s) bytes h = λ input e. h ∙ ap line_for (front_decides bytes input e)
 said_of_all text (Err y) bytes h = tt
+
+-- the line of a refusal is its text with a line feed
+fault_line : (f : SheetFault) → fault_text f ++ codes "\n" ≡ line_for (Err f)
+fault_line f =
+    append_assoc (codes "refused ") (decimal (refusal_number f.refusal) ++ (codes " " ++ decimal f.line)) (codes "\n")
+    ∙ ap (λ l. codes "refused " ++ l) (append_assoc (decimal (refusal_number f.refusal)) (codes " " ++ decimal f.line) (codes "\n") ∙ ap (λ l. decimal (refusal_number f.refusal) ++ l) (append_assoc (codes " ") (decimal f.line) (codes "\n")))
+
+pub fault_told : {X Y : Type 0} (text : X → List ℕ) (r : Result X Y) (bytes : List ℕ) (f : SheetFault) → read_sheet bytes ≡ Err f → IfOk r (λ s. text s ≡ fault_text f ++ codes "\n") → IfOk r (λ s. text s ≡ line_for (read_sheet bytes))
+fault_told text (Ok s) bytes f e h = h ∙ fault_line f ∙ ap line_for (sym e)
+fault_told text (Err y) bytes f e h = tt

@@ -13,6 +13,10 @@ refusal_number Range = 3
 refusal_number Extra = 4
 refusal_number Order = 5
 
+-- `refused` with the refusal and its line
+abbrev pub fault_text : SheetFault → List ℕ
+fault_text f = codes "refused " ++ (decimal (refusal_number f.refusal) ++ (codes " " ++ decimal f.line))
+
 -- `accepted` with the number of flows, that of lanes, D and T, or `refused` with the refusal and its line; and a line feed
 abbrev pub line_for : Result Content SheetFault → List ℕ
 line_for (Ok s) =

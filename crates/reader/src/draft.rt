@@ -7,7 +7,8 @@ ghost use Rattle.reader.specs.declared.fault.Refusal.TheVariants.{Form};
 use crate::fault::Refusal;
 use sheet::shape::Sheet;
 
-// The sections of a sheet's text, in their order.
+// The sections of a sheet's text, in their order. Their letters are cases of a `match`, and so are the lines that each may have: a section
+// is passed as a value and not as a function, and one loop reads all three.
 #[derive(Clone, Copy, PartialEq, Eq)]
 pub enum Section {
     Flows,

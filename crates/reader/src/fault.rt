@@ -1,9 +1,10 @@
 // Why a sheet is refused, and at which line.
-ghost use Rattle.std.specs.Prelude.{◌≡◌, ◌≤◌};
+ghost use Rattle.std.specs.Prelude.{◌≡◌, ◌≤◌, Some};
 ghost use Rattle.reader.specs.declared.fault.Refusal.TheVariants.{Range};
-ghost use Rattle.reader.specs.Verdict.{refusal_number};
+ghost use Rattle.reader.specs.Verdict.{fault_text, refusal_number};
 
 use sheet::build::OutOfRange;
+use std::fmt;
 
 #[derive(Clone, Copy, Debug, PartialEq, Eq)]
 pub enum Refusal {
@@ -27,7 +28,7 @@ pub struct SheetFault {
 }
 
 impl Refusal {
-    /// The number by which users know a refusal.
+    /// The number by which users and C programs know a refusal.
     pub fn number(self) -> u32
         ensures { (result ≡ refusal_number self) × (1 ≤ result) × (result ≤ 5) }
     {
@@ -40,5 +41,16 @@ impl From<OutOfRange> for Refusal {
 
     fn from(_why: OutOfRange) -> Refusal {
         Refusal::Range
+    }
+}
+
+// The refusal by its number, and its line.
+impl fmt::Display for SheetFault {
+    ghost output = { λ f. Some (fault_text f) };
+
+    fn fmt<W: fmt::Write>(&self, f: &mut fmt::Formatter<W>) -> fmt::Result {
+        let refusal = self.refusal.number();
+        let line = self.line;
+        write!(f, "refused {refusal} {line}")
     }
 }

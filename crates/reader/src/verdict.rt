@@ -4,7 +4,6 @@ ghost use Rattle.sheet.specs.Sheets.{content_of};
 ghost use Rattle.reader.specs.Format.{read_sheet};
 ghost use Rattle.reader.specs.Verdict.{line_for};
 
-use crate::fault::SheetFault;
 use crate::read;
 use sheet::shape::Sheet;
 use std::alloc::{AllocError, Global};
@@ -22,21 +21,13 @@ fn accepted(heap: Global, sheet: &Sheet) -> Result<String, AllocError>
     format!(in heap; "accepted {flows} {lanes} {slots} {threshold}\n")
 }
 
-fn refused(heap: Global, fault: SheetFault) -> Result<String, AllocError>
-    ensures { IfOk result (λ s. string_bytes s ≡ line_for (Err fault)) }
-{
-    let refusal = fault.refusal.number();
-    let line = fault.line;
-    format!(in heap; "refused {refusal} {line}\n")
-}
-
 fn verdict_on(heap: Global, bytes: &[u8]) -> Result<String, AllocError>
     ensures { IfOk result (λ s. string_bytes s ≡ line_for (read_sheet bytes.now)) }
 {
     let mut sheet = Sheet::new();
     match read(bytes, &mut sheet) {
         Ok(()) => accepted(heap, &sheet),
-        Err(fault) => refused(heap, fault),
+        Err(fault) => format!(in heap; "{fault}\n"),
     }
 }
 

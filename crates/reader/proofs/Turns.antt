@@ -1,13 +1,12 @@
 -- The turns of a loop over a section's lines.
-use Rattle.std.proofs.Common.{◌≡◌, ℕ, suc, ◌+◌, ◌-◌, ◌<◌, ◌≤◌, List, length, drop, Ok, Err, Result, ap, ◌∙◌, arith}
-use Rattle.std.proofs.lemmas.List.{at_drop_more, at_drop_all}
-use Rattle.reader.specs.declared.draft.Section.{Section}
+use Rattle.std.proofs.Common.{◌≡◌, ℕ, suc, ◌+◌, ◌-◌, ◌<◌, List, length, drop, Ok, Err, Result, ap, ◌∙◌, arith}
+use Rattle.std.proofs.lemmas.List.{at_drop_more}
 use Rattle.reader.specs.declared.draft.Section.TheVariants.{Flows, Lanes, Params}
 use Rattle.reader.specs.declared.fault.Refusal.{Refusal}
 use Rattle.reader.specs.declared.fault.Refusal.TheVariants.{Extra}
 use Rattle.reader.specs.declared.fault.SheetFault.{SheetFault}
 use Rattle.reader.specs.Format.{Read, and_then, line_as, lines_into, section, start, sheet_from, ended, fault}
-use Rattle.reader.specs.Lines.{Progress, count_of, line_into}
+use Rattle.reader.specs.Lines.{Progress}
 
 module _ {S : Type 0} (form : S → List ℕ → Result S Refusal) (so : S) (n i : ℕ) (bytes : List ℕ) (k : ℕ) where
   onward : Read S → Result (Read S) SheetFault
@@ -21,22 +20,9 @@ module _ {S : Type 0} (form : S → List ℕ → Result S Refusal) (so : S) (n i
   unfolding onward
   lines_more h x e = one_line h ∙ ap (λ r. and_then r onward) e
 
-  pub lines_fault : i < n → (f : SheetFault) → line_as (form so) bytes k ≡ Err f → lines_into form so (n - i) bytes k ≡ Err f
-  lines_fault h f e = one_line h ∙ ap (λ r. and_then r onward) e
-
-  pub lines_end : n ≤ i → lines_into form so (n - i) bytes k ≡ Ok (record { got = so; rest = bytes; next = k })
-  lines_end h = let z : n - i ≡ 0 = omega arith in ap (λ m. lines_into form so m bytes k) z
-
--- a section whose count is read
-pub counted : (due : Section) (so : Progress) (bytes : List ℕ) (k : ℕ) (x : Read ℕ) → line_as (count_of due) bytes k ≡ Ok x → section due so bytes k ≡ lines_into (line_into due) so x.got x.rest x.next
-counted due so bytes k x e = ap (λ r. and_then r (λ y. lines_into (line_into due) so y.got y.rest y.next)) e
-
 -- three sections that are read
 pub whole : (bytes : List ℕ) (k : ℕ) (f l p : Read Progress) → section Flows start bytes k ≡ Ok f → section Lanes f.got f.rest f.next ≡ Ok l → section Params l.got l.rest l.next ≡ Ok p → sheet_from bytes k ≡ ended p.got.sheet p.rest p.next
 whole bytes k f l p e g h = simp (e, g, h)
 
 pub ended_late : {A : Type 0} (x : A) (bytes : List ℕ) (at k : ℕ) → at < length bytes → ended x (drop at bytes) k ≡ Err (fault Extra k)
 ended_late x bytes at k h = at_drop_more (λ r. ended x r k) bytes at 0 h
-
-pub ended_well : {A : Type 0} (x : A) (bytes : List ℕ) (at k : ℕ) → length bytes ≤ at → ended x (drop at bytes) k ≡ Ok x
-ended_well x bytes at k h = at_drop_all (λ r. ended x r k) bytes at h

@@ -7,6 +7,7 @@ pub(crate) fn add(sum: u64, word: u64) -> u64 {
     (sum.rotate_left(5) ^ word).wrapping_mul(0x0100_0000_01b3)
 }
 
+// The checksum is defined on these numbers, so the word of each answer begins with its own.
 fn word(code: u64, a: u64, b: u64, c: u64) -> u64 {
     code.wrapping_add(a.wrapping_mul(0x9e37_79b9_7f4a_7c15))
         .wrapping_add(b.wrapping_mul(0xc2b2_ae3d_27d4_eb4f))

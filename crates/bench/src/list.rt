@@ -12,12 +12,27 @@ use std::alloc::Global;
 pub(crate) const TEXT: &[u8] =
     b"F 16\n1 24\n2 40\n3 64\n5 100\n8 160\n10 200\n10 64\n16 320\n20 256\n25 500\n32 512\n40 64\n50 1024\n64 1280\n100 2048\n100 256\nL 8\n32\n32\n32\n32\n32\n32\n32\n32\nP 2\nD 16\nT 6000\n";
 
+// One call in six bytes: fly's own holds a sheet, and a list of those would fill the cache that is measured here.
 #[derive(Clone, Copy)]
 pub(crate) enum Call {
     Arrive { flow: u8, lane: u8, length: u16 },
     Kick(u8),
     Send(u8),
     Reap,
+}
+
+impl Call {
+    // Makes the call, and tells the word of its answer. The answers as one enum between the two took 46 instructions a call.
+    fn word<C: Card>(self, board: &mut Board<C>) -> u64 {
+        match self {
+            Call::Arrive { flow, lane, length } => {
+                arrived(board.arrive(u32::from(flow), u32::from(lane), u32::from(length)))
+            }
+            Call::Kick(lane) => moved(board.kick(u32::from(lane))),
+            Call::Send(lane) => moved(board.send(u32::from(lane))),
+            Call::Reap => reaped(board.reap()),
+        }
+    }
 }
 
 // Makes the calls one after the other, by chance and by what the answers so far have told.
@@ -80,24 +95,12 @@ impl Maker {
 
     // Of two flows that of which fewer wait, and likewise of two lanes.
     fn arrival(&mut self) -> Call {
-        let a = self.numbers.below(16);
-        let b = self.numbers.below(16);
-        let flow = if self.by_flow[b as usize] < self.by_flow[a as usize] {
-            b
-        } else {
-            a
-        };
-        let a = self.numbers.below(8);
-        let b = self.numbers.below(8);
-        let lane = if self.by_lane[b as usize] < self.by_lane[a as usize] {
-            b
-        } else {
-            a
-        };
-        let longest = match self.sheet.flow(flow) {
-            Some(share) => u32::from(share.longest),
-            None => 0,
-        };
+        let flow = self.numbers.lesser_of_two(&self.by_flow);
+        let lane = self.numbers.lesser_of_two(&self.by_lane);
+        let longest = self
+            .sheet
+            .flow(flow)
+            .map_or(0, |share| u32::from(share.longest));
         let length = self.numbers.below(longest).saturating_add(1);
         Call::Arrive {
             flow: flow as u8,
@@ -114,7 +117,7 @@ impl Maker {
                     .arrive(u32::from(flow), u32::from(lane), u32::from(length))
                     .is_ok()
                 {
-                    self.note_arrival(flow, lane);
+                    self.count(flow as usize, lane as usize, |n| n.saturating_add(1));
                     self.lanes.push(lane)?;
                 }
             }
@@ -129,42 +132,26 @@ impl Maker {
         Ok(())
     }
 
-    fn note_arrival(&mut self, flow: u8, lane: u8) {
-        let f = (flow % 16) as usize;
-        let l = (lane % 8) as usize;
-        self.by_flow[f] = self.by_flow[f].saturating_add(1);
-        self.by_lane[l] = self.by_lane[l].saturating_add(1);
-        self.waiting = self.waiting.saturating_add(1);
+    fn note_move(&mut self, answer: Result<Sending, Refusal>) {
+        if let Ok(Sending::Sent { ticket, flow, .. }) = answer {
+            let lane = self.lanes.get(ticket as usize).copied().unwrap_or(0);
+            self.count(flow as usize, lane as usize, |n| n.saturating_sub(1));
+            self.in_card = self.in_card.saturating_add(1);
+        }
     }
 
-    fn note_move(&mut self, answer: Result<Sending, Refusal>) {
-        let Ok(Sending::Sent { ticket, flow, .. }) = answer else {
-            return;
-        };
-        let f = (flow % 16) as usize;
-        let l = (self.lanes.get(ticket as usize).copied().unwrap_or(0) % 8) as usize;
-        self.by_flow[f] = self.by_flow[f].saturating_sub(1);
-        self.by_lane[l] = self.by_lane[l].saturating_sub(1);
-        self.waiting = self.waiting.saturating_sub(1);
-        self.in_card = self.in_card.saturating_add(1);
+    // Changes the counts of what waits: of the flow, in the lane, and in all.
+    fn count<F: Fn(u32) -> u32>(&mut self, flow: usize, lane: usize, change: F)
+        requires { F.IsAlwaysCallable change }
+    {
+        let (f, l) = (flow % 16, lane % 8);
+        self.by_flow[f] = change(self.by_flow[f]);
+        self.by_lane[l] = change(self.by_lane[l]);
+        self.waiting = change(self.waiting);
     }
 }
 
 // Makes the calls in their order, and tells the checksum of the answers.
 pub(crate) fn run_list<C: Card>(board: &mut Board<C>, calls: &[Call]) -> u64 {
-    let mut sum = 0;
-    for call in calls {
-        let word = match *call {
-            Call::Arrive { flow, lane, length } => arrived(board.arrive(
-                u32::from(flow),
-                u32::from(lane),
-                u32::from(length),
-            )),
-            Call::Kick(lane) => moved(board.kick(u32::from(lane))),
-            Call::Send(lane) => moved(board.send(u32::from(lane))),
-            Call::Reap => reaped(board.reap()),
-        };
-        sum = add(sum, word);
-    }
-    sum
+    calls.iter().fold(0, |sum, call| add(sum, call.word(board)))
 }

@@ -17,89 +17,89 @@ use sheet::shape::Sheet;
 use std::env;
 use std::time::Instant;
 
-// One pass over the list, on a fresh board.
-fn pass<C: Card + Drop>(
-    rt: &HostRuntime,
-    card: C,
-    sheet: Sheet,
-    calls: &[Call],
-) -> anyhow::Result<u64> {
-    let mut board = Board::new(card);
-    if board.load(sheet).is_err() {
-        return Err(anyhow!("the sheet was not loaded"));
-    }
-    let began = Instant::now(rt)?;
-    let sum = run_list(&mut board, calls);
-    let took = began.elapsed(rt)?.as_nanos();
-    let each = took / (calls.len() as u128).max(1);
-    eprintln!(rt; "{each} ns a call")?;
-    Ok(sum)
-}
-
-// The list of calls that the generator makes with a board around this card.
-fn make<C: Card + Drop>(
-    rt: &HostRuntime,
-    card: C,
+// Calls made by chance on a sheet, run so many times over.
+#[derive(Drop)]
+struct Bench {
     sheet: Sheet,
     calls: u64,
-) -> anyhow::Result<Vec<Call>> {
-    let mut board = Board::new(card);
-    if board.load(sheet).is_err() {
-        return Err(anyhow!("the sheet was not loaded"));
-    }
-    let mut maker = Maker::new(rt.alloc(), sheet);
-    let mut made = Vec::new(rt.alloc());
-    for _ in 0..calls {
-        let call = maker.next_call();
-        maker.ask(&mut board, call)?;
-        made.push(call)?;
-    }
-    Ok(made)
+    passes: u64,
 }
 
-fn run_queue(rt: &HostRuntime, sheet: Sheet, calls: u64, passes: u64) -> anyhow::Result<()> {
-    let list = make(rt, QueueCard::new(), sheet, calls)?;
-    let mut sum = 0;
-    for _ in 0..passes {
-        sum = pass(rt, QueueCard::new(), sheet, &list)?;
+impl Bench {
+    // A new board around the card, with the sheet loaded.
+    fn board<C: Card + Drop>(&self, card: C) -> anyhow::Result<Board<C>> {
+        let mut board = Board::new(card);
+        board
+            .load(self.sheet)
+            .map_err(|_| anyhow!("the sheet was not loaded"))?;
+        Ok(board)
     }
-    println!(rt; "queue {sum:016x}")?;
-    Ok(())
-}
 
-fn run_bank(rt: &HostRuntime, sheet: Sheet, calls: u64, passes: u64) -> anyhow::Result<()> {
-    let list = make(rt, BankCard::new(), sheet, calls)?;
-    let mut sum = 0;
-    for _ in 0..passes {
-        sum = pass(rt, BankCard::new(), sheet, &list)?;
+    // The list of calls that the generator makes with a board around this card.
+    fn list<C: Card + Drop>(&self, rt: &HostRuntime, card: C) -> anyhow::Result<Vec<Call>> {
+        let mut board = self.board(card)?;
+        let mut maker = Maker::new(rt.alloc(), self.sheet);
+        let mut made = Vec::new(rt.alloc());
+        for _ in 0..self.calls {
+            let call = maker.next_call();
+            maker.ask(&mut board, call)?;
+            made.push(call)?;
+        }
+        Ok(made)
     }
-    println!(rt; "bank {sum:016x}")?;
-    Ok(())
+
+    // One pass over the list, on a fresh board.
+    fn pass<C: Card + Drop>(
+        &self,
+        rt: &HostRuntime,
+        card: C,
+        calls: &[Call],
+    ) -> anyhow::Result<u64> {
+        let mut board = self.board(card)?;
+        let began = Instant::now(rt)?;
+        let sum = run_list(&mut board, calls);
+        let took = began.elapsed(rt)?.as_nanos();
+        let each = took / (calls.len() as u128).max(1);
+        eprintln!(rt; "{each} ns a call")?;
+        Ok(sum)
+    }
+
+    // Makes the list with one card, and runs it on boards around others of the kind.
+    fn run<C: Card + Drop, F: Fn() -> C>(
+        &self,
+        rt: &HostRuntime,
+        name: &str,
+        new_card: F,
+    ) -> anyhow::Result<()>
+        requires { F.IsAlwaysCallable new_card }
+    {
+        let list = self.list(rt, new_card())?;
+        let mut sum = 0;
+        for _ in 0..self.passes {
+            sum = self.pass(rt, new_card(), &list)?;
+        }
+        println!(rt; "{name} {sum:016x}")?;
+        Ok(())
+    }
 }
 
 fn run(rt: &HostRuntime) -> anyhow::Result<()> {
     let mut words = env::args(rt)?.skip(1);
-    let Some(card) = words.next() else {
+    let (Some(card), Some(calls), Some(passes)) = (words.next(), words.next(), words.next()) else {
         return Err(anyhow!("usage: bench queue|bank|both CALLS PASSES"));
     };
-    let Some(calls) = words.next() else {
-        return Err(anyhow!("usage: bench queue|bank|both CALLS PASSES"));
+    let mut bench = Bench {
+        sheet: Sheet::new(),
+        calls: calls.as_str().parse::<u64>()?,
+        passes: passes.as_str().parse::<u64>()?,
     };
-    let Some(passes) = words.next() else {
-        return Err(anyhow!("usage: bench queue|bank|both CALLS PASSES"));
-    };
-    let calls = calls.as_str().parse::<u64>()?;
-    let passes = passes.as_str().parse::<u64>()?;
-    let mut sheet = Sheet::new();
-    if reader::read(TEXT, &mut sheet).is_err() {
-        return Err(anyhow!("the sheet was refused"));
-    }
+    reader::read(TEXT, &mut bench.sheet).map_err(|_| anyhow!("the sheet was refused"))?;
     match card.as_str() {
-        "queue" => run_queue(rt, sheet, calls, passes),
-        "bank" => run_bank(rt, sheet, calls, passes),
+        "queue" => bench.run(rt, "queue", QueueCard::new),
+        "bank" => bench.run(rt, "bank", BankCard::new),
         _ => {
-            run_queue(rt, sheet, calls, passes)?;
-            run_bank(rt, sheet, calls, passes)
+            bench.run(rt, "queue", QueueCard::new)?;
+            bench.run(rt, "bank", BankCard::new)
         }
     }
 }

@@ -1,5 +1,5 @@
 // Pseudo-random numbers: a 64-bit xorshift.
-ghost use Rattle.std.specs.Prelude.{◌<◌};
+ghost use Rattle.std.specs.Prelude.{◌^◌, ◌<◌};
 
 #[derive(Drop)]
 pub(crate) struct XorShift {
@@ -26,5 +26,19 @@ impl XorShift {
             return 0;
         }
         ((x >> 33) % u64::from(limit)) as u32
+    }
+
+    // Of two places below `N` that at which less is counted: the first, if as much is counted at both.
+    pub(crate) fn lesser_of_two<const N: usize>(&mut self, counts: &[u32; N]) -> u32
+        requires { (0 < N) × (N < 2 ^ 32) }
+        ensures { result < N }
+    {
+        let a = self.below(N as u32);
+        let b = self.below(N as u32);
+        if counts[b as usize] < counts[a as usize] {
+            b
+        } else {
+            a
+        }
     }
 }

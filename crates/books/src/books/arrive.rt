@@ -11,7 +11,8 @@ use lanes::records::Request;
 const MOST: u32 = 16_777_216;
 
 impl Books {
-    // The ticket, with the start and the end tag. A flow that the sheet lacks is the first refusal, and stands written out as the later two do.
+    // The ticket, with the start and the end tag. The refusals stand written out: with `ok_or` and `?` for the lane and the charge each call of a board took 8
+    // instructions more, of some 230.
     pub fn arrive(
         &mut self,
         flow: u32,
@@ -23,8 +24,12 @@ impl Books {
         let Some(share) = self.sheet.flow(flow) else {
             return Err(Refusal::NoFlow);
         };
-        let capacity = self.sheet.lane(lane).ok_or(Refusal::NoLane)?;
-        let charge = share.charge(length).ok_or(Refusal::BadLength)?;
+        let Some(capacity) = self.sheet.lane(lane) else {
+            return Err(Refusal::NoLane);
+        };
+        let Some(charge) = share.charge(length) else {
+            return Err(Refusal::BadLength);
+        };
         let waiting = self.lanes.len(lane as usize);
         let mut guard = FlowGuard::new(&mut self.flows[flow as usize]);
         let (start, end) = guard.tag(self.time, charge);

@@ -1,6 +1,7 @@
 -- What the lead of a lane says of the rules. Assumes nothing.
-use Rattle.std.proofs.Common.{◌≡◌, ℕ, suc, ◌<◌, ◌||◌, eqb, ltb, leb, List, [], ◌∷◌, length, get_or, Some, Ok, Err, Option, Result, sym, refl, ap, ◌∙◌, subst, ⊎_elim, arith}
-use Rattle.std.proofs.lemmas.Bool.{cases_Bool, cond-true, cond-false, cond_both, leb-false, lt-leb, lt-ltb, le-leb, ne_eqb}
+use Rattle.std.proofs.Common.{◌≡◌, ℕ, suc, ◌+◌, ◌<◌, ◌≤◌, ◌||◌, eqb, ltb, leb, List, [], ◌∷◌, length, get_or, None, Some, Ok, Err, Option, MatchOption, Result, sym, refl, ap, ◌∙◌, subst, ⊎_elim, arith}
+use Rattle.std.proofs.lemmas.Option.{same_Some}
+use Rattle.std.proofs.lemmas.Bool.{cases_Bool, cond-true, cond-false, cond_both, leb-false, leb-true, lt-leb, lt-ltb, le-leb, le-ltb, ne_eqb}
 use Rattle.heap.proofs.Sorting.{length-insert}
 use Rattle.card.specs.Commands.{Submitted, among, command}
 use Rattle.card.specs.declared.Command.{Command}
@@ -12,8 +13,8 @@ use Rattle.lanes.specs.Records.{by_ticket}
 use Rattle.lanes.specs.declared.records.Request.{Request}
 use Rattle.books.specs.declared.refusal.Refusal.{Refusal}
 use Rattle.books.specs.declared.refusal.Refusal.TheVariants.{NoLane, ByCard}
-use Rattle.board.specs.Rules.{Done, handed, hand_first, kick_from, kick_rule, submits}
-use Rattle.board.specs.declared.answer.Sending.TheVariants.{Sent}
+use Rattle.board.specs.Rules.{Done, Outcome, stays, handed, hand_first, kick_from, kick_rule, send_first, send_rule, submits}
+use Rattle.board.specs.declared.answer.Sending.TheVariants.{Empty, NoSlot, Sent}
 
 pub lead_is : (s : State) (l : ℕ) (o : Option Request) → ◌≡◌ {A = Result (Option Request) Refusal} (Ok o) (lead_rule s l) → (l < length s.sheet.lanes) × (o ≡ head_of (lane_at s l))
 lead_is s l o e = ⊎_elim
@@ -65,6 +66,39 @@ kicks depth held s l k r rest there some room near lane =
     go [] e = let z : ◌≡◌ {A = ℕ} 0 1 = cc in absurd (omega arith)
     go (j ∷ js) e = let same : j ≡ k = cc in ap (λ i. hand_first depth held s i (lane_at s i)) same
 
+-- what is true of the ways of a send of a lead that is not throttled is true of its rule
+pub sends : (depth : ℕ) (held : List Command) (s : State) (l : ℕ) (r : Request) (P : Outcome → Type 0) → l < length s.sheet.lanes → Some r ≡ head_of (lane_at s l) → r.start ≤ s.time + s.sheet.threshold
+    → (s.sheet.slots ≤ length s.in_card → P (stays s (Ok NoSlot)))
+    → (length s.in_card < s.sheet.slots → P (hand_first depth held s l (lane_at s l)))
+    → P (send_rule depth held s l)
+sends depth held s l r P there lead soon full room = subst P (sym (cond-false (leb (length s.sheet.lanes) l) _ _ (lt-leb _ _ there))) (go (lane_at s l) lead room)
+  where
+    go : (w : List Request) → Some r ≡ head_of w → (length s.in_card < s.sheet.slots → P (hand_first depth held s l w)) → P (send_first depth held s l w)
+    go [] e h = let z : ◌≡◌ {A = ℕ} 0 1 = cc in absurd (omega arith)
+    go (x ∷ xs) e h =
+        let same : r ≡ x = same_Some r x e in
+        subst P (sym (cond-false (ltb (s.time + s.sheet.threshold) x.start) _ _ (le-ltb _ _ (subst (λ (q : Request). q.start ≤ s.time + s.sheet.threshold) same soon))))
+        (cond_both (leb s.sheet.slots (length s.in_card)) _ _ P (λ t. full (leb-true _ _ t)) (λ f. h (leb-false _ _ f)))
+
+-- what is true of the ways of a kick where requests wait, by the nearest lead that was found, is true of its rule
+pub kicked : (depth : ℕ) (held : List Command) (s : State) (l : ℕ) (near : Option (ℕ × Request)) (P : Outcome → Type 0) → l < length s.sheet.lanes → l < 8 → 0 < length (starts s.lanes)
+    → MatchOption near (l < 8 → ready_lanes s l ≡ []) (λ p. (l < 8) × (p.0 < 8) × (head_of (ready_lanes s l) ≡ Some p.0) × (head_of (lane_at s p.0) ≡ Some p.1))
+    → (s.sheet.slots ≤ length s.in_card → P (stays s (Ok NoSlot)))
+    → (length s.in_card < s.sheet.slots → MatchOption near (P (stays s (Ok Empty))) (λ p. P (hand_first depth held s p.0 (lane_at s p.0))))
+    → P (kick_rule depth held s l)
+kicked depth held s l near P there few some found full room =
+    subst P (sym (cond-false (leb (length s.sheet.lanes) l) _ _ (lt-leb _ _ there) ∙ cond-false (eqb (length (starts s.lanes)) 0) _ _ (ne_eqb _ 0 (λ e. omega (arith, e, some)))))
+    (cond_both (leb s.sheet.slots (length s.in_card)) _ _ P (λ t. full (leb-true _ _ t)) (λ f. go near found (room (leb-false _ _ f)) (ready_lanes s l) refl))
+  where
+    go : (o : Option (ℕ × Request)) → MatchOption o (l < 8 → ready_lanes s l ≡ []) (λ p. (l < 8) × (p.0 < 8) × (head_of (ready_lanes s l) ≡ Some p.0) × (head_of (lane_at s p.0) ≡ Some p.1))
+        → MatchOption o (P (stays s (Ok Empty))) (λ p. P (hand_first depth held s p.0 (lane_at s p.0))) → (ks : List ℕ) → ks ≡ ready_lanes s l → P (kick_from depth held s ks)
+    go None f r [] e = r
+    go None f r (j ∷ js) e = let z : ◌≡◌ {A = List ℕ} (j ∷ js) [] = e ∙ f few in let y : ◌≡◌ {A = ℕ} 0 1 = cc in absurd (omega arith)
+    go (Some p) f r [] e = let z : ◌≡◌ {A = Option ℕ} (head_of []) (Some p.0) = ap head_of e ∙ f.2 in let y : ◌≡◌ {A = ℕ} 0 1 = cc in absurd (omega arith)
+    go (Some p) f r (j ∷ js) e =
+        let z : ◌≡◌ {A = Option ℕ} (Some j) (Some p.0) = ap head_of e ∙ f.2 in
+        subst (λ k. P (hand_first depth held s k (lane_at s k))) (sym (same_Some j p.0 z)) r
+
 -- the card took the command, or refused it
 pub hands : (depth : ℕ) (before after : List Command) (s s' : State) (k : ℕ) (r : Request) (rest : List Request) → Submitted depth before (command r.ticket r.sectors) (Ok tt) after → lane_at s k ≡ r ∷ rest → s' ≡ moved s k → Done (Ok (Sent r.ticket r.flow r.charge)) s' before after (handed s k r rest (submits depth before r.ticket))
 hands depth before after s s' k r rest sub lane is =
@@ -79,3 +113,7 @@ refuses depth before after s k r rest HeldAlready sub =
     subst (λ v. Done (Err (ByCard HeldAlready)) s before after (handed s k r rest v))
     (sym (cond-false (leb depth (length before)) _ _ (lt-leb depth (length before) sub.0) ∙ cond-true (among r.ticket before) _ _ sub.1))
     (record { says = refl; books = refl; card = sub.2 })
+
+-- what is said of an option's value, where it has one
+pub given : {A : Type 0} {o : Option A} (P : Type 0) (Q : A → Type 0) (x : A) → o ≡ Some x → Q x → MatchOption o P Q
+given P Q x e q = subst (λ o. MatchOption o P Q) (sym e) q

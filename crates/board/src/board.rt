@@ -7,6 +7,7 @@ use card::Card;
 use slots::Slots;
 
 mod calls;
+mod hand;
 mod kick;
 mod looks;
 mod send;

@@ -7,8 +7,7 @@ ghost use Rattle.board.specs.Rules.{Done, kick_rule};
 use crate::answer::Sending;
 use crate::board::Board;
 use books::refusal::Refusal;
-use card::{Card, Command};
-use slots::hand_over;
+use card::Card;
 
 impl<C: Card> Board<C> {
     pub fn kick(&mut self, lane: u32) -> Result<Sending, Refusal>
@@ -22,23 +21,6 @@ impl<C: Card> Board<C> {
             return Ok(Sending::Empty);
         }
         let nearest = self.books.nearest_lead(lane);
-        let Some(grant) = self.slots.take() else {
-            return Ok(Sending::NoSlot);
-        };
-        let Some((near, lead)) = nearest else {
-            grant.give_back(&mut self.slots);
-            return Ok(Sending::Empty);
-        };
-        let command = Command {
-            ticket: lead.ticket,
-            sectors: lead.sectors,
-        };
-        hand_over(&mut self.card, &mut self.slots, grant, command)?;
-        self.books.move_lead(near);
-        Ok(Sending::Sent {
-            ticket: lead.ticket,
-            flow: lead.flow,
-            charge: lead.charge,
-        })
+        self.hand_lead(nearest)
     }
 }

@@ -7,8 +7,7 @@ ghost use Rattle.board.specs.Rules.{Done, send_rule};
 use crate::answer::Sending;
 use crate::board::Board;
 use books::refusal::Refusal;
-use card::{Card, Command};
-use slots::hand_over;
+use card::Card;
 
 impl<C: Card> Board<C> {
     pub fn send(&mut self, lane: u32) -> Result<Sending, Refusal>
@@ -22,19 +21,6 @@ impl<C: Card> Board<C> {
         if lead.start > reach {
             return Ok(Sending::Throttled(lead.start - reach));
         }
-        let Some(grant) = self.slots.take() else {
-            return Ok(Sending::NoSlot);
-        };
-        let command = Command {
-            ticket: lead.ticket,
-            sectors: lead.sectors,
-        };
-        hand_over(&mut self.card, &mut self.slots, grant, command)?;
-        self.books.move_lead(lane);
-        Ok(Sending::Sent {
-            ticket: lead.ticket,
-            flow: lead.flow,
-            charge: lead.charge,
-        })
+        self.hand_lead(Some((lane, lead)))
     }
 }

@@ -1,18 +1,16 @@
-use Rattle.std.proofs.Common.{length, Ok, sym, ap, ◌∙◌, arith}
-use Rattle.sheet.specs.Sheets.{Content}
-use Rattle.books.specs.Model.{State}
+use Rattle.std.proofs.Common.{arith, Ok, sym, ap, ◌∙◌}
 use Rattle.books.specs.Views.{state_of}
-use Rattle.slots.proofs.Sends.{one_sent}
-use Rattle.board.proofs.Sends.{lead_is, one_more, same_sheet, has_moved}
+use Rattle.board.specs.Answers.{outcome_of, sending_of}
+use Rattle.board.specs.Rules.{Done, send_rule}
+use Rattle.board.proofs.Sends.{lead_is, sends}
 use Rattle.board.proofs.board.Board.send.Goals as goal
 
-pub invariant_of-self-2 : goal.invariant_of-self-2
-invariant_of-self-2 g c =
+pub returns : goal.returns
+returns g c =
     let b = c.args.self.now in
     let s = state_of b.books in
+    let held = g.C.Card.held b.card in
     let led = lead_is s c.args.lane _ (sym (c.in_ok-lead.was ∙ ap Ok c.in-Some.is) ∙ c.lead.ensures) in
-    let sent = one_sent b.slots _ _ c.in-Some-take.ensures.1 c.in_ok-hand_over.ensures.slots in record {
-      settled = sent.0 ∙ b.settled;
-      matched = omega (arith, b.matched, sent.1, ap (λ (t : State). length t.in_card) (has_moved s _ c.args.lane (omega (arith, b.matched, b.limited, b.settled, c.in-Some-take.ensures.0)) c.move_lead.ensures), one_more s c.args.lane c.in-Some.lead led.1);
-      limited = omega (arith, b.limited, sent.2, ap (λ (t : State). t.sheet.slots) (has_moved s _ c.args.lane (omega (arith, b.matched, b.limited, b.settled, c.in-Some-take.ensures.0)) c.move_lead.ensures), ap (λ (t : Content). t.slots) (same_sheet s c.args.lane));
-    }
+    let P = Done c.hand_lead.result (state_of c.hand_lead.new.self.books) held (g.C.Card.held c.hand_lead.new.self.card) in
+    let did : P (send_rule g.C.Card.DEPTH held s c.args.lane) = sends g.C.Card.DEPTH held s c.args.lane c.in-Some.lead P led.0 led.1 (omega (arith, c.if-lead-reach.false, c.reach-reach.ensures)) c.hand_lead.ensures.full c.hand_lead.ensures.room in
+    record { rule = did; numbered = ap (outcome_of sending_of) did.says }

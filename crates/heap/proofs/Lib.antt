@@ -1,4 +1,5 @@
 pub mod Held
+pub mod Laws
 pub mod Queue
 pub mod Sorting
 pub mod Steps

@@ -33,7 +33,7 @@ module _ {X : Type 0} (upto : X → X → Bool) where
 
   -- the hole h with x in it, and the same after a step up: its parent p, if x came before the record there, which moved down (true), or else h still (false)
   abbrev pub Lifted : List X → ℕ → ℕ → X → Bool → List X → Type 0
-  Lifted xs h p x true ys = ((ws : List X) → IsPermutation ws (slice_set xs h x) → IsPermutation ws (slice_set ys p x)) × (Rising (slice_set xs h x) h → Rising (slice_set ys p x) p)
+  Lifted xs h p x true ys = IsPermutation (slice_set xs h x) (slice_set ys p x) × (Rising (slice_set xs h x) h → Rising (slice_set ys p x) p)
   Lifted xs h p x false ys = (ys ≡ xs) × (Rising (slice_set xs h x) h → Heaped (slice_set xs h x))
 
   -- In what follows the first n of the items xs are held before, and the first m of ys after; n may pass the end, and then all of xs are held.

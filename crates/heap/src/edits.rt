@@ -1,50 +1,66 @@
-// What the heap does to the items: `n` of them are held before, or all where `n` is more.
-ghost use Rattle.std.specs.Prelude.{◌≡◌, ◌+◌, ◌-◌, ◌<◌, ◌≤◌, min, length};
-ghost use Rattle.heap.specs.Heaps.{Lost, Seen, Took, Traded};
+// What a heap does to its memory: the first `len` of the items are held, or all of them where `len` is more.
+//
+// The memory and the count come apart, and not as a `Heap`, so that `FixedHeap` can lend its own: the check does not tell what a struct
+// around a lent array leaves there where the length of the array is a parameter.
+ghost use Rattle.std.specs.Prelude.{◌≡◌, ◌-◌, ◌<◌, ◌∷◌, length, take, slice_index_or};
+ghost use Rattle.std.specs.List.Sorted.{IsPermutation};
+ghost use Rattle.heap.specs.Heaps.{Heaped, Pushed, Removed, Replaced};
+ghost use Rattle.heap.specs.Order.{upto_by};
 
-use crate::order::TotalOrder;
 use crate::sifts::{rise, settle};
 
-// The first, which stays.
-pub(crate) fn first<T: TotalOrder + Copy>(items: &[T], n: usize) -> T
-    requires { 0 < min n (length items.now) }
-    ensures { Seen T.TotalOrder.upto items.now n result }
+// Takes `x` in, and tells whether there was room.
+pub(crate) fn push<T: Ord + Copy>(items: &mut [T], len: &mut usize, x: T) -> bool
+    ensures { Pushed (upto_by T.cmp) items.old len.old x result items.new len.new }
 {
-    items[0]
+    let at = *len;
+    if at >= items.len() {
+        return false;
+    }
+    rise(&mut items[..at + 1], at, x);
+    *len = at + 1;
+    true
 }
 
-// Takes `x` in.
-pub(crate) fn insert<T: TotalOrder + Copy>(items: &mut [T], n: usize, x: T)
-    requires { n < length items.old }
-    ensures { Took T.TotalOrder.upto items.old n x items.new (n + 1) }
+// Gives out the record in the place `at`.
+pub(crate) fn remove<T: Ord + Copy>(items: &mut [T], len: &mut usize, at: usize) -> Option<T>
+    ensures { Removed (upto_by T.cmp) items.old len.old at result items.new len.new }
 {
-    rise(&mut items[0..n + 1], n, x);
+    let held = (*len).min(items.len());
+    if at >= held {
+        return None;
+    }
+    let gone = delete(&mut items[..held], at);
+    *len = held - 1;
+    Some(gone)
 }
 
-// Gives out the record in the place `at`, for which the last comes in.
-pub(crate) fn delete<T: TotalOrder + Copy>(items: &mut [T], n: usize, at: usize) -> T
-    requires { at < min n (length items.old) }
-    ensures { Lost T.TotalOrder.upto items.old n at result items.new (min n (length items.old) - 1) }
+// Puts `x` in for the record in the place `at`, which is given out.
+pub(crate) fn replace<T: Ord + Copy>(items: &mut [T], len: usize, at: usize, x: T) -> Option<T>
+    ensures { Replaced (upto_by T.cmp) items.old len at x result items.new len }
 {
-    let len = n.min(items.len());
-    let last = len - 1;
-    let held = &mut items[0..len];
+    let held = len.min(items.len());
+    if at >= held {
+        return None;
+    }
+    let gone = items[at];
+    settle(&mut items[..held], at, x);
+    Some(gone)
+}
+
+// Gives out the record in the place `at` of those that are held, for which the last comes in. The last place is free then.
+fn delete<T: Ord + Copy>(held: &mut [T], at: usize) -> T
+    requires { at < length held.old }
+    ensures is { (d : T) → result ≡ slice_index_or held.old at d }
+    ensures long { length held.new ≡ length held.old }
+    ensures shuffled { IsPermutation held.old (result ∷ take (length held.old - 1) held.new) }
+    ensures heaped { Heaped (upto_by T.cmp) held.old → Heaped (upto_by T.cmp) (take (length held.old - 1) held.new) }
+{
+    let last = held.len() - 1;
     let gone = held[at];
     if at < last {
         let moved = held[last];
-        settle(&mut held[0..last], at, moved);
+        settle(&mut held[..last], at, moved);
     }
-    gone
-}
-
-// Puts `x` in for the record in the place `at`, which it gives out.
-pub(crate) fn exchange<T: TotalOrder + Copy>(items: &mut [T], n: usize, at: usize, x: T) -> T
-    requires { at < min n (length items.old) }
-    ensures { Traded T.TotalOrder.upto items.old n at x result items.new n }
-{
-    let len = n.min(items.len());
-    let held = &mut items[0..len];
-    let gone = held[at];
-    settle(held, at, x);
     gone
 }

@@ -1,19 +1,21 @@
 // A binary heap over memory that its owner lends.
 ghost use Rattle.std.specs.Prelude.{◌≡◌, min, length};
 ghost use Rattle.heap.specs.Heaps.{Peeked, Popped, Pushed, Removed, Replaced};
+ghost use Rattle.heap.specs.Lent.{SameLoan};
+ghost use Rattle.heap.specs.Order.{upto_by};
 
-use crate::edits::{delete, exchange, first, insert};
-use crate::order::TotalOrder;
+use crate::edits;
 
-// The first `len` of the items are held, or all of them where `len` is more. The owner keeps them heaped (a ghost field of the
-// owner, `Heaped upto (take len items)`), so that the first is the least. Each method keeps them so.
+// The first `len` of the items are held, or all of them where `len` is more. Each method keeps them heaped, so that the first is the
+// least. That they are heaped is no fact of this type, since a ghost field beside a `&mut` is not covered, and since any memory may
+// be lent; it is one of `FixedHeap`.
 #[derive(Drop)]
 pub struct Heap<'a, T> {
     items: &'a mut [T],
     len: &'a mut usize,
 }
 
-impl<'a, T: TotalOrder + Copy> Heap<'a, T> {
+impl<'a, T: Ord + Copy> Heap<'a, T> {
     pub fn new(items: &'a mut [T], len: &'a mut usize) -> Heap<'a, T>
         ensures lender { result.items.ghost_name ≡ items.entry.ghost_name }
         ensures items { result.items.now ≡ items.old }
@@ -31,67 +33,47 @@ impl<'a, T: TotalOrder + Copy> Heap<'a, T> {
 
     // Takes `x` in, and tells whether there was room.
     pub fn push(&mut self, x: T) -> bool
-        ensures lender { (self.new.items.ghost_name ≡ self.old.items.ghost_name) × (self.new.len.ghost_name ≡ self.old.len.ghost_name) }
-        ensures pushed { Pushed T.TotalOrder.upto self.old.items.now self.old.len.now x result self.new.items.now self.new.len.now }
+        ensures lender { SameLoan self.old self.new }
+        ensures pushed { Pushed (upto_by T.cmp) self.old.items.now self.old.len.now x result self.new.items.now self.new.len.now }
     {
-        let at = *self.len;
-        if at >= self.items.len() {
-            return false;
-        }
-        insert(self.items, at, x);
-        *self.len = at + 1;
-        true
+        edits::push(self.items, self.len, x)
     }
 
     // Gives the least out, or `None` where none is held. It is the one that `peek` gives.
     pub fn pop(&mut self) -> Option<T>
-        ensures lender { (self.new.items.ghost_name ≡ self.old.items.ghost_name) × (self.new.len.ghost_name ≡ self.old.len.ghost_name) }
-        ensures popped { Popped T.TotalOrder.upto self.old.items.now self.old.len.now result self.new.items.now self.new.len.now }
+        ensures lender { SameLoan self.old self.new }
+        ensures popped { Popped (upto_by T.cmp) self.old.items.now self.old.len.now result self.new.items.now self.new.len.now }
     {
         self.remove(0)
     }
 
     // Gives out the record in the place `at`, or `None` where none is held there.
     pub fn remove(&mut self, at: usize) -> Option<T>
-        ensures lender { (self.new.items.ghost_name ≡ self.old.items.ghost_name) × (self.new.len.ghost_name ≡ self.old.len.ghost_name) }
-        ensures removed { Removed T.TotalOrder.upto self.old.items.now self.old.len.now at result self.new.items.now self.new.len.now }
+        ensures lender { SameLoan self.old self.new }
+        ensures removed { Removed (upto_by T.cmp) self.old.items.now self.old.len.now at result self.new.items.now self.new.len.now }
     {
-        let len = self.len();
-        if at >= len {
-            return None;
-        }
-        let held = *self.len;
-        let gone = delete(self.items, held, at);
-        *self.len = len - 1;
-        Some(gone)
+        edits::remove(self.items, self.len, at)
     }
 
     // Puts `x` in for the record in the place `at`, which is given out, or `None` where none is held there.
     pub fn replace(&mut self, at: usize, x: T) -> Option<T>
-        ensures lender { (self.new.items.ghost_name ≡ self.old.items.ghost_name) × (self.new.len.ghost_name ≡ self.old.len.ghost_name) }
-        ensures replaced { Replaced T.TotalOrder.upto self.old.items.now self.old.len.now at x result self.new.items.now self.new.len.now }
+        ensures lender { SameLoan self.old self.new }
+        ensures replaced { Replaced (upto_by T.cmp) self.old.items.now self.old.len.now at x result self.new.items.now self.new.len.now }
     {
-        if at >= self.len() {
-            return None;
-        }
-        let held = *self.len;
-        Some(exchange(self.items, held, at, x))
+        edits::replace(self.items, *self.len, at, x)
     }
 
     // The least, which stays, or `None` where none is held.
     pub fn peek(&self) -> Option<T>
-        ensures peeked { Peeked T.TotalOrder.upto self.now.items.now self.now.len.now result }
+        ensures peeked { Peeked (upto_by T.cmp) self.now.items.now self.now.len.now result }
     {
         least(&*self.items, *self.len)
     }
 }
 
 // `peek`, of memory that is lent to be read.
-pub fn least<T: TotalOrder + Copy>(items: &[T], len: usize) -> Option<T>
-    ensures peeked { Peeked T.TotalOrder.upto items.now len result }
+pub fn least<T: Ord + Copy>(items: &[T], len: usize) -> Option<T>
+    ensures peeked { Peeked (upto_by T.cmp) items.now len result }
 {
-    if len.min(items.len()) == 0 {
-        return None;
-    }
-    Some(first(items, len))
+    items[..len.min(items.len())].first().copied()
 }

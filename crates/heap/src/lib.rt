@@ -2,6 +2,7 @@
 #![tactic(auto)]
 
 mod edits;
+pub mod fixed;
 pub mod heap;
 pub mod lists;
 pub mod order;

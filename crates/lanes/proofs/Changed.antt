@@ -1,7 +1,7 @@
 -- The leads of the lanes after one lane changes. Assumes nothing.
 use Rattle.std.proofs.Common.{◌≡◌, ℕ, zero, suc, ◌+◌, ◌<◌, ◌≤◌, true, false, cond, eqb, ltb, List, [], ◌∷◌, length, get_or, set, Some, None, sum_by, Option, sym, refl, ap, ◌∙◌, subst, ⊎_elim, arith}
 use Rattle.std.specs.Option.{option_to_list}
-use Rattle.std.proofs.lemmas.List.{get_or-set_same, length-append, length-map, length-set}
+use Rattle.std.proofs.lemmas.List.{length-append, length-map, length-set}
 use Rattle.std.proofs.lemmas.List.Sums.{sum_by-cons, sum_by-append}
 use Rattle.std.proofs.lemmas.Bool.{and_parts, both_ways, cases_eq, cond_both, cond-false, cond-true, eq-eqb, eqb-true, ltb-false, ltb-true, ne_eqb, or_cases, or_left}
 use Rattle.heap.specs.Sorting.{head_of, insert, upto}
@@ -155,7 +155,6 @@ module _ (ls : List Lane) (held : List Lead) (eight : length ls ≡ 8) (tied : T
       let w = insert by_start x (get_or (lanes_in ls) i []) in
       (as_long ls ls' i w eight s, subst (Tied held) (sym s) (tied_same held (lanes_in ls) i w inside tied (lead_stays i x (get_or (lanes_in ls) i []) (t ∙ ap (goes_first x.start) f))))
 
-  pub keeps_pop : (ls' : List Lane) (held' : List Lead) (rest : List Request) (next : Option Request) (new : Option Lead) → lanes_in ls' ≡ set (lanes_in ls) i rest → next ≡ head_of (get_or (lanes_in ls') i []) → option_to_list new ≡ lead_at i (option_to_list next) → Updates i new held held' → Kept ls' held'
+  pub keeps_pop : (ls' : List Lane) (held' : List Lead) (rest : List Request) (next : Option Request) (new : Option Lead) → lanes_in ls' ≡ set (lanes_in ls) i rest → next ≡ head_of rest → option_to_list new ≡ lead_at i (option_to_list next) → Updates i new held held' → Kept ls' held'
   keeps_pop ls' held' rest next new s f e u =
-      let left : get_or (lanes_in ls') i [] ≡ rest = ap (λ l. get_or l i []) s ∙ get_or-set_same (lanes_in ls) i rest [] inside in
-      (as_long ls ls' i rest eight s, subst (Tied held') (sym s) (tied_update held held' (lanes_in ls) i rest new inside tied u (e ∙ ap (λ o. lead_at i (option_to_list o)) (f ∙ ap head_of left) ∙ lead_head i rest)))
+      (as_long ls ls' i rest eight s, subst (Tied held') (sym s) (tied_update held held' (lanes_in ls) i rest new inside tied u (e ∙ ap (λ o. lead_at i (option_to_list o)) f ∙ lead_head i rest)))

@@ -1,10 +1,9 @@
 -- The leads of the lanes, and the least of their start tags. Assumes nothing.
-use Rattle.std.proofs.Common.{◌≡◌, ℕ, suc, ◌<◌, ◌≤◌, true, cond, eqb, ltb, List, [], ◌∷◌, length, get_or, take, Some, None, sum_by, Option, sym, refl, ap, ◌∙◌, ⊎_elim, arith}
-use Rattle.std.proofs.lemmas.List.{length-take}
+use Rattle.std.proofs.Common.{◌≡◌, ℕ, suc, ◌<◌, ◌≤◌, true, cond, eqb, ltb, List, [], ◌∷◌, length, get_or, Some, None, sum_by, Option, sym, refl, ap, ◌∙◌, ⊎_elim, arith}
 use Rattle.std.proofs.lemmas.List.Sums.{sum_by-cons}
 use Rattle.std.proofs.lemmas.Bool.{cases_eq, cases_lt, eq-eqb, ne_eqb, le-ltb, lt-ltb, ltb-true, cond-true, cond-false, or_cases, and_parts, eqb-true}
-use Rattle.heap.specs.Heaps.{Heaped, Least, Peeked}
-use Rattle.heap.proofs.Held.{take_none}
+use Rattle.heap.specs.Fixed.{Leads}
+use Rattle.heap.specs.Heaps.{Least}
 use Rattle.lanes.specs.Records.{lead_upto}
 use Rattle.lanes.specs.Waits.{starts, least, leads_from, start_of, Tied}
 use Rattle.lanes.specs.declared.records.Lead.{Lead}
@@ -82,6 +81,6 @@ gathered_kept kept [] ys e h = refl
 gathered_kept kept (m ∷ ms) ys e h = absurd (omega (arith, h (λ _. 1), ap (sum_by (λ (l : Lead). 1)) e, sum_by-cons (λ _. 1) m ms))
 
 -- what the first of the leads tells
-pub tied_least : (kept : ℕ) (ls : List (List Request)) (xs : List Lead) (n : ℕ) (r : Option Lead) → Heaped lead_upto (take n xs) → Tied (take n xs) ls → Peeked lead_upto xs n r → start_of r kept ≡ least kept (starts ls)
-tied_least kept ls xs n None o t h = gathered_kept kept (starts ls) (take n xs) (take_none n xs h) (tied_starts (take n xs) ls t)
-tied_least kept ls xs n (Some x) o t h = gathered_least kept (starts ls) x (take n xs) (omega (arith, h.some, length-take n xs)) h.first (h.least o) (tied_starts (take n xs) ls t)
+pub tied_least : (kept : ℕ) (ls : List (List Request)) (xs : List Lead) (r : Option Lead) → Tied xs ls → Leads lead_upto xs r → start_of r kept ≡ least kept (starts ls)
+tied_least kept ls xs None t h = gathered_kept kept (starts ls) xs h (tied_starts xs ls t)
+tied_least kept ls xs (Some x) t h = gathered_least kept (starts ls) x xs h.1 h.0 h.2 (tied_starts xs ls t)

@@ -1,48 +1,60 @@
--- A search by a number, and what a request that comes out of the card leaves. Assumes nothing.
-use Rattle.std.proofs.Common.{◌≡◌, ℕ, zero, suc, ◌+◌, ◌<◌, ◌≤◌, cond, eqb, List, [], ◌∷◌, ◌++◌, length, get_or, take, set, Some, sum_by, sym, refl, ap, ◌∙◌, ⊎_elim, arith}
-use Rattle.std.proofs.lemmas.List.{get_or-take, length-take-le, take_more_set, take-set}
-use Rattle.std.proofs.lemmas.List.Sorted.{IsPermutation-to_front}
-use Rattle.std.proofs.lemmas.List.Sums.{sum_by-cons, sum_by_more, sum_by-set}
-use Rattle.std.proofs.lemmas.Bool.{cases_eq, cond-true, cond-false, eq-eqb, ne_eqb}
+-- A search by a number, and what a request that goes into the card or comes out of it leaves. Assumes nothing.
+use Rattle.std.proofs.Common.{◌≡◌, ℕ, ◌+◌, ◌<◌, ◌≤◌, Bool, true, false, cond, eqb, ltb, not, List, [], ◌∷◌, ◌++◌, length, get_or, Some, None, Option, is_some, Result, Ok, Err, IsOk, OnOk, OnErr, ◌↔◌, is_ok, sum_by, sym, refl, ap, ◌∙◌, subst, ⊎_elim, arith}
+use Rattle.std.specs.List.Sorted.{IsPermutation}
+use Rattle.std.specs.List.{position, position_or_len, swap_remove}
+use Rattle.std.proofs.lemmas.List.Quantifiers.{position-Some}
+use Rattle.std.proofs.lemmas.List.Sorted.{IsPermutation-swap_remove, IsPermutation-to_front, sum_by-IsPermutation}
+use Rattle.std.proofs.lemmas.List.Sums.{sum_by-cons}
+use Rattle.std.proofs.lemmas.Bool.{both_ways, cases_lt, cond-true, cond-false, eq-eqb, eqb-true, le-ltb, lt-ltb}
 use Rattle.heap.specs.Sorting.{insert, sorted}
-use Rattle.heap.proofs.Sorting.{Ordered-sorted, same_ordered, sorted-IsPermutation, sum_by-sorted}
+use Rattle.heap.proofs.Sorting.{length-sorted, sorted-IsPermutation, sum_by-sorted}
 use Rattle.lanes.specs.Records.{by_ticket, ticket_is}
 use Rattle.lanes.specs.Table.{Removes}
 use Rattle.lanes.specs.declared.records.Request.{Request}
 use Rattle.lanes.proofs.Held.{told_by_ticket}
 
--- a search passes a record whose number is another
-pub passed : {X : Type 0} (number : X → ℕ) (xs : List X) (i t : ℕ) (d : X) → i < length xs → (number (get_or xs i d) ≡ t → ⊥) → sum_by (λ x. cond (eqb (number x) t) 1 0) (take i xs) ≡ 0 → sum_by (λ x. cond (eqb (number x) t) 1 0) (take (i + 1) xs) ≡ 0
-passed number xs i t d l ne z = omega (arith, sum_by_more (λ x. cond (eqb (number x) t) 1 0) xs i d l, cond-false {A = ℕ} (eqb (number (get_or xs i d)) t) 1 0 (ne_eqb (number (get_or xs i d)) t ne))
+module _ {X : Type 0} (p : X → Bool) where
+  all_passed : (xs : List X) → length xs ≤ position_or_len p xs → sum_by (λ x. cond (p x) 1 0) xs ≡ 0
+  all_passed [] l = refl
+  all_passed (x ∷ xs) l = go (p x) refl (all_passed xs)
+    where
+      go : (b : Bool) → p x ≡ b → (length xs ≤ position_or_len p xs → sum_by (λ x. cond (p x) 1 0) xs ≡ 0) → sum_by (λ x. cond (p x) 1 0) (x ∷ xs) ≡ 0
+      go true e rest = absurd (omega (arith, l, ap (λ b. cond (not b) (1 + position_or_len p xs) 0) e))
+      go false e rest = omega (arith, sum_by-cons (λ x. cond (p x) 1 0) x xs, cond-false {A = ℕ} (p x) 1 0 e, rest (omega (arith, l, ap (λ b. cond (not b) (1 + position_or_len p xs) 0) e)))
 
-pub stored : (xs : List Request) (n : ℕ) (x : Request) → n < length xs → sorted by_ticket (take (n + 1) (set xs n x)) ≡ insert by_ticket x (sorted by_ticket (take n xs))
-stored xs n x l =
-    ap (sorted by_ticket) (take_more_set xs n x l)
-    ∙ sym (sorted-IsPermutation by_ticket told_by_ticket (take n xs ++ x ∷ []) (x ∷ take n xs) (IsPermutation-to_front (take n xs) x))
+  -- where a search finds none, there is none
+  pub absent : (xs : List X) → position p xs ≡ None → sum_by (λ x. cond (p x) 1 0) xs ≡ 0
+  absent xs e = ⊎_elim
+      (λ l. absurd (both_ways _ (ap is_some e) (ap is_some (cond-true {A = Option ℕ} (ltb (position_or_len p xs) (length xs)) (Some (position_or_len p xs)) None (lt-ltb _ _ l)))))
+      (λ l. all_passed xs l)
+      (cases_lt (position_or_len p xs) (length xs))
 
-take-set_under : (m : ℕ) (xs : List Request) (i : ℕ) (a : Request) → i < m → take m (set xs i a) ≡ set (take m xs) i a
-take-set_under zero xs i a l = absurd (omega (arith, l))
-take-set_under (suc m) [] i a l = refl
-take-set_under (suc m) (x ∷ xs) zero a l = refl
-take-set_under (suc m) (x ∷ xs) (suc i) a l = ap (λ ys. x ∷ ys) (take-set_under m xs i a (omega (arith, l)))
+pub record Stored (xs : List Request) (x : Request) (b : Bool) (ys : List Request) : Type 0 where
+  pub answer : b ≡ ltb (length (sorted by_ticket xs)) 32
+  pub after : sorted by_ticket ys ≡ cond b (insert by_ticket x (sorted by_ticket xs)) (sorted by_ticket xs)
 
--- the last in the place of the one at i
-filled : (g : Request → ℕ) (xs : List Request) (n m i : ℕ) (d : Request) → n ≡ m + 1 → n ≤ length xs → i < n → sum_by g (take n xs) ≡ g (get_or xs i d) + sum_by g (take m (set xs i (get_or xs m d)))
-filled g xs n m i d e l b =
-    let y = get_or xs m d in
-    let whole : sum_by g (take n xs) ≡ sum_by g (take m xs) + g y = ap (λ k. sum_by g (take k xs)) e ∙ sum_by_more g xs m d (omega arith) in
-    ⊎_elim
-    (λ (same : i ≡ m). omega (arith, whole, ap (λ k. g (get_or xs k d)) same, ap (sum_by g) (ap (λ k. take m (set xs k y)) same ∙ take-set xs m y)))
-    (λ other. omega (arith, whole, ap (sum_by g) (take-set_under m xs i y (omega (arith, other))), sum_by-set g (take m xs) i y d (omega (arith, other, length-take-le m xs (omega arith))), ap g (get_or-take m xs i d (omega (arith, other)))))
-    (cases_eq i m)
+pub stored : {A E V : Type 0} (items : V → List Request) (r : Result A E) (b : Bool) (old new : V) (x : Request) → b ≡ is_ok r → (IsOk r ↔ (length (items old) < 32)) → OnOk r (items new ≡ items old ++ x ∷ []) → OnErr r (new ≡ old) → Stored (items old) x b (items new)
+stored items (Ok a) b old new x e v o f =
+    let xs = items old in
+    record {
+      answer = e ∙ sym (lt-ltb _ 32 (omega (arith, v.0 refl, length-sorted by_ticket xs)));
+      after = ap (sorted by_ticket) o
+          ∙ sym (sorted-IsPermutation by_ticket told_by_ticket (xs ++ x ∷ []) (x ∷ xs) (IsPermutation-to_front xs x))
+          ∙ sym (ap (λ c. cond c (insert by_ticket x (sorted by_ticket xs)) (sorted by_ticket xs)) e);
+    }
+stored items (Err a) b old new x e v o f =
+    let xs = items old in
+    record {
+      answer = e ∙ sym (le-ltb _ 32 (⊎_elim (λ l. absurd (both_ways _ refl (v.1 l))) (λ l. omega (arith, l, length-sorted by_ticket xs)) (cases_lt (length xs) 32)));
+      after = ap (λ v. sorted by_ticket (items v)) f ∙ sym (ap (λ c. cond c (insert by_ticket x (sorted by_ticket xs)) (sorted by_ticket xs)) e);
+    }
 
-pub removes : (xs : List Request) (n m i t : ℕ) (d : Request) → n ≡ m + 1 → n ≤ length xs → i < n → (get_or xs i d).ticket ≡ t → Removes t (sorted by_ticket (take n xs)) (Some (get_or xs i d)) (sorted by_ticket (take m (set xs i (get_or xs m d))))
-removes xs n m i t d e l b s =
-    let x = get_or xs i d in
-    let rest = take m (set xs i (get_or xs m d)) in
-    let all : (g : Request → ℕ) → sum_by g (take n xs) ≡ g x + sum_by g rest = λ g. filled g xs n m i d e l b in (
-      s,
-      same_ordered by_ticket told_by_ticket (sorted by_ticket (take n xs)) (sorted by_ticket (x ∷ rest)) (Ordered-sorted by_ticket (take n xs)) (Ordered-sorted by_ticket (x ∷ rest))
-          (λ g. omega (arith, sum_by-sorted by_ticket g (take n xs), all g, sum_by-sorted by_ticket g (x ∷ rest), sum_by-cons g x rest)),
-      λ one. omega (arith, one, sum_by-sorted by_ticket (ticket_is t) (take n xs), sum_by-sorted by_ticket (ticket_is t) rest, all (ticket_is t), cond-true {A = ℕ} (eqb x.ticket t) 1 0 (eq-eqb x.ticket t s)),
+pub removes : (xs ys : List Request) (i t : ℕ) (x : Request) → position (λ r. eqb r.ticket t) xs ≡ Some i → x ≡ get_or xs i x → ys ≡ swap_remove xs i x → Removes t (sorted by_ticket xs) (Some x) (sorted by_ticket ys)
+removes xs ys i t x p is e =
+    let found = position-Some (λ (r : Request). eqb r.ticket t) xs i x p in
+    let ticket : x.ticket ≡ t = ap (λ (r : Request). r.ticket) is ∙ eqb-true _ t found.1 in
+    let h = subst (λ v. IsPermutation xs (x ∷ v)) (sym e) (IsPermutation-swap_remove xs i x found.0 is) in (
+      ticket,
+      sym (sorted-IsPermutation by_ticket told_by_ticket xs (x ∷ ys) h),
+      λ one. omega (arith, one, sum_by-sorted by_ticket (ticket_is t) xs, sum_by-sorted by_ticket (ticket_is t) ys, sum_by-IsPermutation (ticket_is t) xs (x ∷ ys) h, sum_by-cons (ticket_is t) x ys, cond-true {A = ℕ} (eqb x.ticket t) 1 0 (eq-eqb x.ticket t ticket)),
     )

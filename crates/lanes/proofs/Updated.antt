@@ -1,30 +1,43 @@
 -- The leads after one of them changes, from the heap's answers. Assumes nothing.
-use Rattle.std.proofs.Common.{◌≡◌, ℕ, ◌+◌, ◌<◌, Bool, true, false, List, ◌∷◌, length, get_or, take, Some, None, sum_by, Option, ap, subst, arith}
-use Rattle.std.proofs.lemmas.List.{length-take}
+use Rattle.std.proofs.Common.{◌≡◌, ℕ, ◌+◌, ◌<◌, Bool, true, false, eqb, List, ◌∷◌, length, get_or, Some, None, sum_by, Option, sym, ap, ◌∙◌, arith}
+use Rattle.std.specs.List.{position}
+use Rattle.std.specs.Option.{option_to_list}
+use Rattle.std.proofs.lemmas.List.Quantifiers.{position-Some}
 use Rattle.std.proofs.lemmas.List.Sorted.{sum_by-IsPermutation}
-use Rattle.std.proofs.lemmas.List.Sums.{sum_by-cons}
-use Rattle.heap.specs.Heaps.{Pushed, Removed, Replaced}
-use Rattle.lanes.specs.Records.{lead_upto}
+use Rattle.std.proofs.lemmas.List.Sums.{get_or-le-sum_by, sum_by-cons}
+use Rattle.std.proofs.lemmas.Bool.{eqb-true}
+use Rattle.heap.specs.Fixed.{Enters, Leaves, Swaps}
+use Rattle.lanes.specs.Leads.{Updates}
+use Rattle.lanes.specs.Records.{lane_is, no_lead}
 use Rattle.lanes.specs.declared.records.Lead.{Lead}
+use Rattle.lanes.proofs.Removed.{absent}
 
-module _ (xs₀ xs ys : List Lead) (n₀ n m : ℕ) (p : xs₀ ≡ xs) (q : n₀ ≡ n) where
-  pub entered : (x : Lead) (r : Bool) → length xs ≡ 8 → length (take n xs) < 8 → Pushed lead_upto xs₀ n₀ x r ys m → (g : Lead → ℕ) → sum_by g (take m ys) ≡ sum_by g (take n xs) + g x
-  entered x r e l h g = go r (subst (λ v. Pushed lead_upto v n x r ys m) p (subst (λ k. Pushed lead_upto xs₀ k x r ys m) q h))
-    where
-      go : (r : Bool) → Pushed lead_upto xs n x r ys m → sum_by g (take m ys) ≡ sum_by g (take n xs) + g x
-      go true t = omega (arith, sum_by-IsPermutation g (x ∷ take n xs) (take m ys) t.held, sum_by-cons g x (take n xs))
-      go false t = absurd (omega (arith, e, l, t.0, length-take n xs))
+-- r is what a search for the lead of the lane found
+module _ (lane : ℕ) (xs ys : List Lead) (r : Option ℕ) (new : Option Lead) (place : r ≡ position (λ (x : Lead). eqb x.lane lane) xs) where
+  abbrev is_lane : Lead → Bool
+  is_lane x = eqb x.lane lane
 
-  pub replaced : (at : ℕ) (x : Lead) (r : Option Lead) → at < length (take n xs) → Replaced lead_upto xs₀ n₀ at x r ys m → (g : Lead → ℕ) (d : Lead) → sum_by g (take m ys) + g (get_or (take n xs) at d) ≡ sum_by g (take n xs) + g x
-  replaced at x r l h g d = go r (subst (λ v. Replaced lead_upto v n at x r ys m) p (subst (λ k. Replaced lead_upto xs₀ k at x r ys m) q h))
-    where
-      go : (r : Option Lead) → Replaced lead_upto xs n at x r ys m → sum_by g (take m ys) + g (get_or (take n xs) at d) ≡ sum_by g (take n xs) + g x
-      go None t = absurd (omega (arith, l, t.0, length-take n xs))
-      go (Some y) t = omega (arith, sum_by-IsPermutation g (x ∷ take n xs) (y ∷ take m ys) t.held, sum_by-cons g x (take n xs), sum_by-cons g y (take m ys), ap g (t.is d))
+  pub entered : (x : Lead) (b : Bool) → r ≡ None → new ≡ Some x → (sum_by (lane_is lane) xs ≡ 0 → length xs < 8) → Enters 8 xs x b ys → Updates lane new xs ys
+  entered x true n e room h = (None, absent is_lane xs (sym place ∙ n), λ g. omega (arith, sum_by-IsPermutation g (x ∷ xs) ys h.1, sum_by-cons g x xs, ap (λ o. sum_by g (option_to_list o)) e))
+  entered x false n e room h = absurd (omega (arith, room (absent is_lane xs (sym place ∙ n)), h.0))
 
-  pub removed : (at : ℕ) (r : Option Lead) → at < length (take n xs) → Removed lead_upto xs₀ n₀ at r ys m → (g : Lead → ℕ) (d : Lead) → sum_by g (take m ys) + g (get_or (take n xs) at d) ≡ sum_by g (take n xs)
-  removed at r l h g d = go r (subst (λ v. Removed lead_upto v n at r ys m) p (subst (λ k. Removed lead_upto xs₀ k at r ys m) q h))
+  pub stayed : r ≡ None → new ≡ None → ys ≡ xs → Updates lane new xs ys
+  stayed n e s = (None, absent is_lane xs (sym place ∙ n), λ g. omega (arith, ap (sum_by g) s, ap (λ o. sum_by g (option_to_list o)) e))
+
+  pub replaced : (at : ℕ) (x : Lead) (q : Option Lead) → r ≡ Some at → new ≡ Some x → Swaps xs at x q ys → Updates lane new xs ys
+  replaced at x q n e h =
+      let found = position-Some is_lane xs at no_lead (sym place ∙ n) in
+      (Some (get_or xs at no_lead), (eqb-true _ lane found.1, λ g. get_or-le-sum_by g xs at no_lead found.0), λ g. go q h found.0 g)
     where
-      go : (r : Option Lead) → Removed lead_upto xs n at r ys m → sum_by g (take m ys) + g (get_or (take n xs) at d) ≡ sum_by g (take n xs)
-      go None t = absurd (omega (arith, l, t.0, length-take n xs))
-      go (Some y) t = omega (arith, sum_by-IsPermutation g (take n xs) (y ∷ take m ys) t.held, sum_by-cons g y (take m ys), ap g (t.is d))
+      go : (q : Option Lead) → Swaps xs at x q ys → at < length xs → (g : Lead → ℕ) → sum_by g ys + sum_by g (option_to_list (Some (get_or xs at no_lead))) ≡ sum_by g xs + sum_by g (option_to_list new)
+      go None t l g = absurd (omega (arith, l, t.0))
+      go (Some y) t l g = omega (arith, sum_by-IsPermutation g (x ∷ xs) (y ∷ ys) t.2, sum_by-cons g x xs, sum_by-cons g y ys, ap g (t.0 no_lead), ap (λ o. sum_by g (option_to_list o)) e)
+
+  pub removed : (upto : Lead → Lead → Bool) (at : ℕ) (q : Option Lead) → r ≡ Some at → new ≡ None → Leaves upto xs at q ys → Updates lane new xs ys
+  removed upto at q n e h =
+      let found = position-Some is_lane xs at no_lead (sym place ∙ n) in
+      (Some (get_or xs at no_lead), (eqb-true _ lane found.1, λ g. get_or-le-sum_by g xs at no_lead found.0), λ g. go q h found.0 g)
+    where
+      go : (q : Option Lead) → Leaves upto xs at q ys → at < length xs → (g : Lead → ℕ) → sum_by g ys + sum_by g (option_to_list (Some (get_or xs at no_lead))) ≡ sum_by g xs + sum_by g (option_to_list new)
+      go None t l g = absurd (omega (arith, l, t.0))
+      go (Some y) t l g = omega (arith, sum_by-IsPermutation g xs (y ∷ ys) t.2, sum_by-cons g y ys, ap g (t.0 no_lead), ap (λ o. sum_by g (option_to_list o)) e)

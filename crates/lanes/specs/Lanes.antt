@@ -8,7 +8,7 @@ pub use Rattle.lanes.specs.Waits.{waits, PopsAt, starts, least}
 
 -- what waits in each lane, the lead first
 abbrev pub lanes_of : Lanes → List (List Request)
-lanes_of l = lanes_in l.array.lanes
+lanes_of l = lanes_in l.lanes
 
 -- whether a request may enter lane i: there is such a lane, and fewer than 32 wait in it
 abbrev pub has_room : ℕ → List (List Request) → Bool

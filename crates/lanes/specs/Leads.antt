@@ -1,5 +1,5 @@
 -- The leads that are held.
-use Rattle.std.specs.Prelude.{◌≡◌, ℕ, ◌+◌, ◌≤◌, List, take, Some, None, sum_by, Option}
+use Rattle.std.specs.Prelude.{◌≡◌, ℕ, ◌+◌, ◌≤◌, List, Some, None, sum_by, Option}
 use Rattle.std.specs.Option.{option_to_list}
 use Rattle.lanes.specs.Records.{lane_is}
 use Rattle.lanes.specs.declared.leads.Leads.{Leads}
@@ -7,7 +7,7 @@ use Rattle.lanes.specs.declared.records.Lead.{Lead}
 
 -- the leads that are held, in the order of the heap
 abbrev pub leads_of : Leads → List Lead
-leads_of l = take l.count l.slots
+leads_of l = l.heap
 
 -- the old lead of lane i among the leads held, or None where it has none
 abbrev pub OldLead : ℕ → List Lead → Option Lead → Type 0

@@ -1,5 +1,5 @@
 -- What waits: for each lane its requests in order, the lead first.
-use Rattle.std.specs.Prelude.{◌≡◌, ℕ, suc, ◌≤◌, min, Bool, true, List, [], ◌∷◌, ◌++◌, map, take, Some, None, sum_by, Option, ◌≢◌, nat_lt, slice_index_or, slice_set}
+use Rattle.std.specs.Prelude.{◌≡◌, ℕ, suc, ◌≤◌, min, Bool, true, List, [], ◌∷◌, ◌++◌, map, Some, None, sum_by, Option, ◌≢◌, nat_lt, slice_index_or, slice_set}
 use Rattle.std.specs.List.{ContainsAt as Has, AllByRecursion}
 use Rattle.heap.specs.Sorting.{sorted}
 use Rattle.lanes.specs.Records.{by_start}
@@ -9,7 +9,7 @@ use Rattle.lanes.specs.declared.records.Request.{Request}
 
 -- what waits in a lane
 abbrev pub waits : Lane → List Request
-waits l = sorted by_start (take l.count l.slots)
+waits l = sorted by_start l.requests
 
 -- what waits in each of some lanes
 abbrev pub lanes_in : List Lane → List (List Request)

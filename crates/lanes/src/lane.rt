@@ -1,10 +1,7 @@
 // A lane: the queue of one processor core, with at most 32 requests waiting in a heap.
 // The struct has a file of its own, since the definitions that its methods cite name it.
-ghost use Rattle.std.specs.Prelude.{◌≡◌, ◌≤◌, length, take};
-ghost use Rattle.heap.specs.Heaps.{Heaped};
-ghost use Rattle.lanes.specs.Records.{request_upto};
-
 use crate::records::Request;
+use heap::fixed::FixedHeap;
 
 mod methods;
 
@@ -13,9 +10,5 @@ pub(crate) const CAPACITY: usize = 32;
 
 #[derive(Drop)]
 pub(crate) struct Lane {
-    slots: [Request; CAPACITY],
-    count: usize,
-    ghost sized: { length slots ≡ 32 },
-    ghost within: { count ≤ 32 },
-    ghost ordered: { Heaped request_upto (take count slots) },
+    requests: FixedHeap<Request, CAPACITY>,
 }

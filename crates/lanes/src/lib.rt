@@ -1,7 +1,6 @@
 // The requests of a board: those that wait in its lanes, with the heap of the lanes' leads, and those in the card.
 #![tactic(auto)]
 
-mod array;
 pub mod clock;
 mod lane;
 pub mod lanes;

@@ -1,7 +1,6 @@
 // The requests in the card, at most 32, found by ticket.
-ghost use Rattle.std.specs.Prelude.{◌≡◌, ◌≤◌, length};
-
 use crate::records::Request;
+use arrayvec::ArrayVec;
 
 mod methods;
 
@@ -10,8 +9,5 @@ pub(crate) const MOST: usize = 32;
 
 #[derive(Drop)]
 pub struct InCard {
-    slots: [Request; MOST],
-    count: usize,
-    ghost sized: { length slots ≡ 32 },
-    ghost within: { count ≤ 32 },
+    requests: ArrayVec<Request, MOST>,
 }

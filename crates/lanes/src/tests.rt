@@ -2,7 +2,6 @@ use crate::lanes::Lanes;
 use crate::records::{Lead, Request};
 use crate::table::InCard;
 use heap::heap::Heap;
-use heap::order::TotalOrder;
 use std::process::Abort;
 use std::test::Fail;
 

@@ -3,17 +3,16 @@ ghost use Rattle.heap.specs.Sorting.{insert, head_of, Pops};
 ghost use Rattle.lanes.specs.Records.{by_start};
 ghost use Rattle.lanes.specs.Waits.{waits};
 
-use crate::lane::{CAPACITY, Lane};
+use crate::lane::Lane;
 use crate::records::Request;
-use heap::heap::{Heap, least};
+use heap::fixed::FixedHeap;
 
 impl Lane {
     pub(crate) fn new() -> Lane
         ensures { waits result ≡ [] }
     {
         Lane {
-            slots: [Request::none(); CAPACITY],
-            count: 0,
+            requests: FixedHeap::new(),
         }
     }
 
@@ -21,7 +20,7 @@ impl Lane {
     pub(crate) fn len(&self) -> usize
         ensures { result ≡ length (waits self.now) }
     {
-        self.count
+        self.requests.len()
     }
 
     // Takes a request in, and tells whether there was room.
@@ -29,20 +28,20 @@ impl Lane {
         ensures answer { result ≡ nat_lt (length (waits self.old)) 32 }
         ensures after { waits self.new ≡ (if result then insert by_start x (waits self.old) else waits self.old) }
     {
-        Heap::new(&mut self.slots, &mut self.count).push(x)
+        self.requests.push(x)
     }
 
     // The lead, which leaves.
     pub(crate) fn pop(&mut self) -> Option<Request>
         ensures { Pops (waits self.old) result (waits self.new) }
     {
-        Heap::new(&mut self.slots, &mut self.count).pop()
+        self.requests.pop()
     }
 
     // The lead, which stays.
     pub(crate) fn lead(&self) -> Option<Request>
         ensures { result ≡ head_of (waits self.now) }
     {
-        least(&self.slots, self.count)
+        self.requests.peek()
     }
 }

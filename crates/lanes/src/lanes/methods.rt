@@ -5,17 +5,18 @@ ghost use Rattle.lanes.specs.Records.{by_start};
 ghost use Rattle.lanes.specs.Waits.{PopsAt, starts, least, lead_at, goes_first, start_of};
 ghost use Rattle.std.specs.Option.{option_to_list};
 
-use crate::array::{LANES, LaneArray};
-use crate::lanes::Lanes;
+use crate::lane::Lane;
+use crate::lanes::{LANES, Lanes};
 use crate::leads::Leads;
 use crate::records::{Lead, Request};
+use std::array;
 
 impl Lanes {
     pub fn new() -> Lanes
         ensures { lanes_of result ≡ replicate 8 [] }
     {
         Lanes {
-            array: LaneArray::new(),
+            lanes: array::from_fn(|_| Lane::new()),
             leads: Leads::new(),
         }
     }
@@ -38,20 +39,14 @@ impl Lanes {
     pub fn len(&self, i: usize) -> usize
         ensures { result ≡ length (slice_index_or (lanes_of self.now) i []) }
     {
-        if i >= LANES {
-            return 0;
-        }
-        self.array.len(i)
+        self.lanes.get(i).map_or(0, |lane| lane.len())
     }
 
     // The lead of lane i, which stays; `None` where there is no such lane.
     pub fn lead(&self, i: usize) -> Option<Request>
         ensures { result ≡ head_of (slice_index_or (lanes_of self.now) i []) }
     {
-        if i >= LANES {
-            return None;
-        }
-        self.array.lead(i)
+        self.lanes.get(i)?.lead()
     }
 
     // Takes a request into lane i, and tells whether there is such a lane and it had room.
@@ -62,8 +57,9 @@ impl Lanes {
         if i >= LANES {
             return false;
         }
-        let lead = self.array.lead(i);
-        if !self.array.push(i, x) {
+        let lane = &mut self.lanes[i];
+        let lead = lane.lead();
+        if !lane.push(x) {
             return false;
         }
         if goes_first(x.start, lead) {
@@ -79,8 +75,9 @@ impl Lanes {
         if i >= LANES {
             return None;
         }
-        let gone = self.array.pop(i)?;
-        let next = self.array.lead(i);
+        let lane = &mut self.lanes[i];
+        let gone = lane.pop()?;
+        let next = lane.lead();
         self.leads.update(i, lead_of(i, next));
         Some(gone)
     }
@@ -90,28 +87,21 @@ impl Lanes {
 fn start_of(lead: Option<Lead>, kept: u64) -> u64
     ensures { result ≡ start_of lead kept }
 {
-    match lead {
-        Some(first) => first.start,
-        None => kept,
-    }
+    lead.map_or(kept, |lead| lead.start)
 }
 
 // Whether a request that starts at `start` starts before the lead of its lane, or comes alone.
 fn goes_first(start: u64, lead: Option<Request>) -> bool
     ensures { result ≡ goes_first start lead }
 {
-    match lead {
-        Some(first) => start < first.start,
-        None => true,
-    }
+    lead.is_none_or(|first| start < first.start)
 }
 
 // The entry of a lane among the leads, by the first that waits there.
 fn lead_of(lane: usize, first: Option<Request>) -> Option<Lead>
     ensures { option_to_list result ≡ lead_at lane (option_to_list first) }
 {
-    let first = first?;
-    Some(Lead {
+    first.map(|first| Lead {
         start: first.start,
         lane,
     })

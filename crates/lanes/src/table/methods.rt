@@ -1,18 +1,19 @@
-ghost use Rattle.std.specs.Prelude.{◌≡◌, ℕ, ◌<◌, [], length, if◌then◌else◌, Some, sum_by, MatchOption, nat_lt, slice_index_or};
+ghost use Rattle.std.specs.Prelude.{◌≡◌, [], length, if◌then◌else◌, nat_lt, ◌==◌};
+ghost use Rattle.std.specs.List.{position};
 ghost use Rattle.heap.specs.Sorting.{insert};
-ghost use Rattle.lanes.specs.Records.{by_ticket, ticket_is};
+ghost use Rattle.lanes.specs.Records.{by_ticket};
 ghost use Rattle.lanes.specs.Table.{in_card_of, Removes};
 
 use crate::records::Request;
-use crate::table::{InCard, MOST};
+use crate::table::InCard;
+use arrayvec::ArrayVec;
 
 impl InCard {
     pub fn new() -> InCard
         ensures { in_card_of result ≡ [] }
     {
         InCard {
-            slots: [Request::none(); MOST],
-            count: 0,
+            requests: ArrayVec::new(),
         }
     }
 
@@ -20,7 +21,7 @@ impl InCard {
     pub fn len(&self) -> usize
         ensures { result ≡ length (in_card_of self.now) }
     {
-        self.count
+        self.requests.len()
     }
 
     // Takes a request in, and tells whether there was room.
@@ -28,51 +29,24 @@ impl InCard {
         ensures answer { result ≡ nat_lt (length (in_card_of self.old)) 32 }
         ensures after { in_card_of self.new ≡ (if result then insert by_ticket x (in_card_of self.old) else in_card_of self.old) }
     {
-        if self.len() >= MOST {
-            return false;
-        }
-        self.store(x);
-        true
-    }
-
-    fn store(&mut self, x: Request)
-        requires { length (in_card_of self.old) < 32 }
-        ensures { in_card_of self.new ≡ insert by_ticket x (in_card_of self.old) }
-    {
-        self.slots[self.count] = x;
-        self.count += 1;
+        self.requests.try_push(x).is_ok()
     }
 
     // The place of a request with the ticket.
     fn place(&self, ticket: u32) -> Option<usize>
-        ensures { MatchOption result (sum_by (ticket_is ticket) (in_card_of self.now) ≡ 0) (λ i. (i < self.now.count) × ((d : Request) → (slice_index_or self.now.slots i d).ticket ≡ ticket)) }
+        ensures { result ≡ position (λ x. x.ticket == ticket) self.now.requests.items }
     {
-        for i in 0..self.count {
-            if self.slots[i].ticket == ticket {
-                return Some(i);
-            }
-        }
-        None
+        self.requests
+            .as_slice()
+            .iter()
+            .position(|request| request.ticket == ticket)
     }
 
-    // The request with the ticket, which leaves.
+    // The request with the ticket, which leaves; the last comes into its place.
     pub fn remove(&mut self, ticket: u32) -> Option<Request>
         ensures { Removes ticket (in_card_of self.old) result (in_card_of self.new) }
     {
-        let Some(i) = self.place(ticket) else {
-            return None;
-        };
-        Some(self.take(i))
-    }
-
-    // The request in the place i, which leaves; the last comes into its place.
-    fn take(&mut self, i: usize) -> Request
-        requires { i < self.old.count }
-        ensures { (t : ℕ) → ((d : Request) → (slice_index_or self.old.slots i d).ticket ≡ t) → Removes t (in_card_of self.old) (Some result) (in_card_of self.new) }
-    {
-        let request = self.slots[i];
-        self.count -= 1;
-        self.slots[i] = self.slots[self.count];
-        request
+        let i = self.place(ticket)?;
+        Some(self.requests.swap_remove(i))
     }
 }

@@ -1,15 +1,20 @@
-use Rattle.std.proofs.Common.{◌-◌, get_or, take, ap, ◌∙◌, arith}
+use Rattle.std.proofs.Common.{arith}
+use Rattle.heap.specs.Order.{upto_by}
 use Rattle.heap.proofs.Held as held
+use Rattle.heap.proofs.Laws.{total, transitive}
 use Rattle.heap.proofs.edits.delete.Goals as goal
 
-pub returns-then-at-last : goal.returns-then-at-last
-returns-then-at-last g c =
-    let laws = g.met.T.TotalOrder in
-    let gone = c.index-held-at in
-    held.removes g.T.TotalOrder.upto laws.total laws.transitive c.args.items.now c.settle.new.s c.args.n _ _ _ c.args.at gone.result c.index-held-last.result (omega arith) (omega arith) (omega arith) (omega arith) gone.is (c.index-held-last.is ∙ ap (λ i. get_or (take (c.min-len.result - 0) c.args.items.now) i c.index-held-last.result) (omega arith)) c.settle.ensures.shuffled c.settle.ensures.heaped
+pub returns-then-at-last-clause-shuffled : goal.returns-then-at-last-clause-shuffled
+returns-then-at-last-clause-shuffled g c =
+    let laws = g.met.T.Ord.total in
+    (held.deletes (upto_by g.T.Ord.cmp) (total laws) (transitive laws) c.args.held.now c.settle.new.s _ c.args.at _ c.index-held-last.result (omega arith) (omega arith) c.index-held-at.is c.index-held-last.is c.settle.ensures.shuffled c.settle.ensures.heaped).0
 
-pub returns-else-at-last : goal.returns-else-at-last
-returns-else-at-last g c =
-    let laws = g.met.T.TotalOrder in
-    let gone = c.index-held-at in
-    held.removes_last g.T.TotalOrder.upto laws.total laws.transitive c.args.items.now c.args.n _ _ c.args.at gone.result (omega arith) (omega arith) (omega arith) (omega arith) gone.is
+pub returns-then-at-last-clause-heaped : goal.returns-then-at-last-clause-heaped
+returns-then-at-last-clause-heaped g c =
+    let laws = g.met.T.Ord.total in
+    (held.deletes (upto_by g.T.Ord.cmp) (total laws) (transitive laws) c.args.held.now c.settle.new.s _ c.args.at c.index-held-at.result c.index-held-last.result (omega arith) (omega arith) c.index-held-at.is c.index-held-last.is c.settle.ensures.shuffled c.settle.ensures.heaped).1
+
+pub returns-else-at-last-clause-shuffled : goal.returns-else-at-last-clause-shuffled
+returns-else-at-last-clause-shuffled g c =
+    let laws = g.met.T.Ord.total in
+    held.deletes_last (upto_by g.T.Ord.cmp) (total laws) (transitive laws) c.args.held.now _ c.args.at _ (omega arith) (omega arith) (omega arith) c.index-held-at.is

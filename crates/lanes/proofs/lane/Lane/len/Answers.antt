@@ -1,7 +1,7 @@
-use Rattle.std.proofs.Common.{sym}
+use Rattle.std.proofs.Common.{sym, ◌∙◌}
+use Rattle.heap.proofs.Sorting.{length-sorted}
 use Rattle.lanes.specs.Records.{by_start}
-use Rattle.lanes.proofs.Held.{length_held}
 use Rattle.lanes.proofs.lane.Lane.len.Goals as goal
 
 pub returns : goal.returns
-returns c = let l = c.args.self.now in sym (length_held by_start l.slots l.count l.sized l.within)
+returns c = c.len.ensures ∙ sym (length-sorted by_start c.args.self.now.requests)

@@ -1,7 +1,7 @@
-use Rattle.lanes.proofs.Held.{popped}
+use Rattle.heap.proofs.Queue.{left_sorted}
+use Rattle.lanes.specs.Records.{by_start}
+use Rattle.lanes.proofs.Held.{request_order, told_by_start}
 use Rattle.lanes.proofs.lane.Lane.pop.Goals as goal
 
 pub returns : goal.returns
-returns c =
-    let l = c.args.self.now in
-    popped _ l.slots _ _ l.count _ c.pop.result c.new.ensures.items c.new.ensures.len.1 l.ordered c.pop.ensures.popped
+returns c = left_sorted by_start told_by_start _ request_order c.args.self.now.requests c.pop.new.self c.pop.result c.pop.ensures

@@ -1,26 +1,24 @@
-use Rattle.std.proofs.Common.{get_or, Some, sum_by, ap, arith}
-use Rattle.std.specs.Option.{option_to_list}
-use Rattle.std.proofs.lemmas.List.Sums.{get_or-le-sum_by}
+use Rattle.std.proofs.Common.{refl}
 use Rattle.lanes.specs.Leads.{leads_of}
-use Rattle.lanes.specs.Records.{no_lead}
+use Rattle.lanes.proofs.Updated.{entered, removed, replaced, stayed}
 use Rattle.lanes.proofs.leads.Leads.update.Goals as goal
 
-pub returns-in-Some-new : goal.returns-in-Some-new
-returns-in-Some-new c =
-    let held = leads_of c.args.self.now in
-    let at = c.in-Some.at in
-    let there = c.in-Some.ensures in (
-      Some (get_or held at no_lead),
-      (there.1 no_lead, λ g. get_or-le-sum_by g held at no_lead there.0),
-      λ g. omega (arith, c.replace.ensures g no_lead, ap (λ o. sum_by g (option_to_list o)) c.in-Some-new.is),
-    )
+pub returns-in-Some-Some : goal.returns-in-Some-Some
+returns-in-Some-Some c =
+    let found = c.in-Some-Some in
+    replaced c.args.lane (leads_of c.args.self.now) c.replace.new.self c.place.result c.args.new c.place.ensures found.at found.x c.replace.result found.is-0 found.is-1 c.replace.ensures
 
-pub returns-in-None-new : goal.returns-in-None-new
-returns-in-None-new c =
-    let held = leads_of c.args.self.now in
-    let at = c.in-Some.at in
-    let there = c.in-Some.ensures in (
-      Some (get_or held at no_lead),
-      (there.1 no_lead, λ g. get_or-le-sum_by g held at no_lead there.0),
-      λ g. omega (arith, c.remove.ensures g no_lead, ap (λ o. sum_by g (option_to_list o)) c.in-None-new.is),
-    )
+pub returns-in-Some-None : goal.returns-in-Some-None
+returns-in-Some-None c =
+    let found = c.in-Some-None in
+    removed c.args.lane (leads_of c.args.self.now) c.remove.new.self c.place.result c.args.new c.place.ensures _ found.at c.remove.result found.is-0 found.is-1 c.remove.ensures
+
+pub returns-in-None-Some : goal.returns-in-None-Some
+returns-in-None-Some c =
+    let found = c.in-None-Some in
+    entered c.args.lane (leads_of c.args.self.now) c.push.new.self c.place.result c.args.new c.place.ensures found.x c.push.result found.is-0 found.is-1 c.requires c.push.ensures
+
+pub returns-in-None-None : goal.returns-in-None-None
+returns-in-None-None c =
+    let found = c.in-None-None in
+    stayed c.args.lane (leads_of c.args.self.now) (leads_of c.args.self.now) c.place.result c.args.new c.place.ensures found.is-0 found.is-1 refl

@@ -1,7 +1,7 @@
-use Rattle.std.proofs.Common.{sym}
+use Rattle.std.proofs.Common.{sym, ◌∙◌}
+use Rattle.heap.proofs.Sorting.{length-sorted}
 use Rattle.lanes.specs.Records.{by_ticket}
-use Rattle.lanes.proofs.Held.{length_held}
 use Rattle.lanes.proofs.table.InCard.len.Goals as goal
 
 pub returns : goal.returns
-returns c = let t = c.args.self.now in sym (length_held by_ticket t.slots t.count t.sized t.within)
+returns c = c.len.ensures.value ∙ sym (length-sorted by_ticket c.args.self.now.requests.items)

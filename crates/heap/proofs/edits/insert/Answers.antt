@@ -1,8 +1,0 @@
-use Rattle.std.proofs.Common.{arith}
-use Rattle.heap.proofs.Held as held
-use Rattle.heap.proofs.edits.insert.Goals as goal
-
-pub returns : goal.returns
-returns g c =
-    let laws = g.met.T.TotalOrder in
-    held.pushes g.T.TotalOrder.upto laws.total laws.transitive c.args.items.now c.rise.new.s c.args.n _ c.args.x (omega arith) c.requires c.rise.ensures.shuffled c.rise.ensures.heaped

@@ -1,0 +1,89 @@
+// A heap that owns its memory.
+ghost use Rattle.std.specs.Prelude.{◌≡◌, [], length};
+ghost use Rattle.heap.specs.Fixed.{Enters, Leads, Leaves, Swaps};
+ghost use Rattle.heap.specs.Order.{upto_by};
+
+use crate::edits;
+use crate::heap::least;
+use std::marker::Model;
+
+// At most `N` records, heaped at all times. A contract sees those that are held, as they lie, the least first.
+#[derive(Drop)]
+pub struct FixedHeap<T: Ord, const N: usize> {
+    slots: [T; N],
+    count: usize,
+}
+
+impl<T: Ord, const N: usize> Model for FixedHeap<T, N> {
+    ghost use Rattle.std.specs.Prelude.{◌≡◌, ◌≤◌, List, length, take};
+    ghost use Rattle.heap.specs.Heaps.{Heaped};
+    ghost use Rattle.heap.specs.Order.{upto_by};
+
+    ghost Value = { List T };
+
+    ghost view = { λ h. take h.count h.slots };
+
+    ghost invariant = { λ h. (length h.slots ≡ N) × (h.count ≤ N) × Heaped (upto_by T.cmp) (take h.count h.slots) };
+}
+
+impl<T: Ord + Copy, const N: usize> FixedHeap<T, N> {
+    pub fn new() -> FixedHeap<T, N>
+    where
+        T: Default,
+        ensures { result ≡ [] }
+    {
+        FixedHeap {
+            slots: [T::default(); N],
+            count: 0,
+        }
+    }
+
+    // How many are held.
+    pub fn len(&self) -> usize
+        ensures { result ≡ length self.now }
+    {
+        self.count
+    }
+
+    // Those that are held, the least first.
+    pub fn as_slice(&self) -> &[T]
+        ensures { result.now ≡ self.now }
+    {
+        &self.slots[..self.count]
+    }
+
+    // The least, which stays, or `None` where none is held.
+    pub fn peek(&self) -> Option<T>
+        ensures { Leads (upto_by T.cmp) self.now result }
+    {
+        least(&self.slots, self.count)
+    }
+
+    // Takes `x` in, and tells whether there was room.
+    pub fn push(&mut self, x: T) -> bool
+        ensures { Enters N self.old x result self.new }
+    {
+        edits::push(&mut self.slots, &mut self.count, x)
+    }
+
+    // Gives the least out, or `None` where none is held. It is the one that `peek` gives.
+    pub fn pop(&mut self) -> Option<T>
+        ensures { Leaves (upto_by T.cmp) self.old 0 result self.new }
+    {
+        self.remove(0)
+    }
+
+    // Gives out the record in the place `at`, or `None` where none is held there.
+    pub fn remove(&mut self, at: usize) -> Option<T>
+        ensures { Leaves (upto_by T.cmp) self.old at result self.new }
+    {
+        edits::remove(&mut self.slots, &mut self.count, at)
+    }
+
+    // Puts `x` in for the record in the place `at`, which is given out, or `None` where none is held there.
+    pub fn replace(&mut self, at: usize, x: T) -> Option<T>
+        ensures { Swaps self.old at x result self.new }
+    {
+        edits::replace(&mut self.slots, self.count, at, x)
+    }
+}

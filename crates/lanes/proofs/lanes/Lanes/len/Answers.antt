@@ -1,6 +1,0 @@
-use Rattle.std.proofs.Common.{length, sym, ap, arith}
-use Rattle.lanes.proofs.Arrays.{lane_past}
-use Rattle.lanes.proofs.lanes.Lanes.len.Goals as goal
-
-pub returns-then-i-ge-LANES : goal.returns-then-i-ge-LANES
-returns-then-i-ge-LANES c = let l = c.args.self.now in sym (ap length (lane_past l.array.lanes c.args.i (omega (arith, l.eight))))

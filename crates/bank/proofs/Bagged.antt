@@ -2,35 +2,26 @@
 use Rattle.std.proofs.Common.{◌≡◌, ℕ, zero, suc, ◌-◌, ◌%◌, ◌<◌, ◌≤◌, Bool, true, false, ◌||◌, eqb, List, [], ◌∷◌, ◌++◌, map, length, get_or, set, Some, Ok, Err, sym, refl, ap, ◌∙◌, subst, ⊎_elim, arith, lt-ltb, ne_eqb}
 use borrow.Author.Tests.{clash}
 use Rattle.std.proofs.lemmas.List.{length-append, length-map, get_or-set_same, get_or-set_other, map_push}
-use Rattle.std.proofs.lemmas.Bool.{cases_eq}
+use Rattle.std.proofs.lemmas.Bool.{cases_eq, or_from}
 use Rattle.card.specs.declared.Command.{Command}
 use Rattle.card.specs.declared.CardFault.TheVariants.{HeldAlready}
-use Rattle.card.specs.Commands.{among, command, More}
-use Rattle.card.proofs.Bags.{Plus, here, plus_end, plus_before, plus_after, more_plus}
+use Rattle.card.specs.Commands.{among, More}
+use Rattle.card.proofs.Bags.{among-append, Plus, here, plus_end, plus_before, plus_after, more_plus}
 use Rattle.ring.specs.Rings.{head_of, tail_of}
 use Rattle.bank.proofs.Picks.{oldest_ready, seen_some}
 use Rattle.bank.specs.Jobs.{Job, fresh, commands_in, commands_all, lowered, ready}
-use Rattle.bank.specs.Rules.{put_in, first_ready, answer_of, submit_rule}
+use Rattle.bank.specs.Rules.{Placed, put_in, first_ready, answer_of, submit_rule}
 
--- each bank has only tickets of its own
-abbrev pub Placed : List (List Job) → Type 0
-Placed banks = (b t : ℕ) → (t % 4 ≡ b → ⊥) → among t (commands_in (get_or banks b [])) ≡ false
-
-or_false_both : (a b : Bool) → a ≡ false → b ≡ false → (a || b) ≡ false
-or_false_both a b p q = rw (p, q)
-
-pub among-append : (t : ℕ) (xs ys : List Command) → among t (xs ++ ys) ≡ (among t xs || among t ys)
-among-append t [] ys = refl
-among-append t (x ∷ xs) ys = ap (λ b. eqb x.ticket t || b) (among-append t xs ys) ∙ assoc (eqb x.ticket t) (among t xs) (among t ys)
-  where
-    assoc : (a b d : Bool) → (a || (b || d)) ≡ ((a || b) || d)
-    assoc true b d = refl
-    assoc false b d = refl
+-- what every bank card keeps
+pub record Sound (banks : List (List Job)) (count : ℕ) : Type 0 where
+  pub four : length banks ≡ 4
+  pub counted : count ≡ length (commands_all banks)
+  pub placed : Placed banks
 
 -- a ticket that is in no bank is not among all
 among_nowhere : (t : ℕ) (banks : List (List Job)) → ((k : ℕ) → among t (commands_in (get_or banks k [])) ≡ false) → among t (commands_all banks) ≡ false
 among_nowhere t [] no_bank = refl
-among_nowhere t (jobs ∷ banks) no_bank = among-append t (commands_in jobs) (commands_all banks) ∙ or_false_both (among t (commands_in jobs)) (among t (commands_all banks)) (no_bank 0) (among_nowhere t banks (λ k. no_bank (suc k)))
+among_nowhere t (jobs ∷ banks) no_bank = among-append t (commands_in jobs) (commands_all banks) ∙ or_from (among t (commands_in jobs)) (among t (commands_all banks)) (no_bank 0) (among_nowhere t banks (λ k. no_bank (suc k)))
 
 or_false_end : (a b : Bool) → b ≡ false → (a || b) ≡ a
 or_false_end true b h = refl
@@ -79,7 +70,7 @@ placed_put banks c four placed k u other =
     let at : get_or (put_in banks b (fresh c)) k [] ≡ jobs ++ fresh c ∷ [] = ap (λ i. get_or (put_in banks b (fresh c)) i []) e ∙ get_or-set_same banks b (jobs ++ fresh c ∷ []) [] (omega arith) in
     let apart : eqb c.ticket u ≡ false = ne_eqb c.ticket u (λ s. other (sym (ap (λ v. v % 4) s) ∙ sym e)) in
     let old : among u (commands_in jobs) ≡ false = placed b u (λ s. other (s ∙ sym e)) in
-    ap (λ js. among u (commands_in js)) at ∙ ap (among u) (map_push (λ (j : Job). j.command) jobs (fresh c)) ∙ among-append u (commands_in jobs) (c ∷ []) ∙ or_false_both (among u (commands_in jobs)) (eqb c.ticket u || false) old (or_false_both (eqb c.ticket u) false apart refl))
+    ap (λ js. among u (commands_in js)) at ∙ ap (among u) (map_push (λ (j : Job). j.command) jobs (fresh c)) ∙ among-append u (commands_in jobs) (c ∷ []) ∙ or_from (among u (commands_in jobs)) (eqb c.ticket u || false) old (or_from (eqb c.ticket u) false apart refl))
     (λ (d : k ≡ b → ⊥). ap (λ js. among u (commands_in js)) (get_or-set_other banks b k (jobs ++ fresh c ∷ []) [] d) ∙ placed k u other)
     (cases_eq k b)
 

@@ -4,42 +4,32 @@ use Rattle.std.proofs.lemmas.List.{length-map}
 use Rattle.card.specs.Commands.{More, Same, Finished}
 use Rattle.card.proofs.Bags.{more_length, same_refl}
 use Rattle.ring.specs.Rings.{head_of, tail_of}
-use Rattle.bank.specs.declared.bank.Bank.{Bank}
 use Rattle.bank.specs.Jobs.{Job, commands_all, lowered}
-use Rattle.bank.specs.Rules.{answer_of, first_ready, take_from, finish_rule}
-use Rattle.bank.specs.Views.{banks_of}
-use Rattle.bank.proofs.Bagged.{Placed, Taken, all_lowered, placed_lowered, placed_taken}
-use Rattle.bank.proofs.Four.{length_banks}
+use Rattle.bank.specs.Rules.{Placed, answer_of, first_ready, take_from, finish_rule}
+use Rattle.bank.proofs.Bagged.{Sound, Taken, all_lowered, placed_lowered, placed_taken}
 
--- what every bank card keeps
-pub record Sound (bs : List Bank) (count : ℕ) : Type 0 where
-  pub four : length bs ≡ 4
-  pub counted : count ≡ length (commands_all (banks_of bs))
-  pub placed : Placed (banks_of bs)
-
-pub sound_lowered : (bs low : List Bank) (count : ℕ) → Sound bs count → banks_of low ≡ map lowered (banks_of bs) → Sound low count
-sound_lowered bs low count s is =
+pub sound_lowered : (banks low : List (List Job)) (count : ℕ) → Sound banks count → low ≡ map lowered banks → Sound low count
+sound_lowered banks low count s is =
     record {
-      four = sym (length_banks low) ∙ ap length is ∙ length-map (banks_of bs) lowered ∙ length_banks bs ∙ s.four;
-      counted = s.counted ∙ sym (ap (λ banks. length (commands_all banks)) is ∙ ap length (all_lowered (banks_of bs)));
-      placed = subst Placed (sym is) (placed_lowered (banks_of bs) s.placed);
+      four = ap length is ∙ length-map banks lowered ∙ s.four;
+      counted = s.counted ∙ sym (ap (λ bs. length (commands_all bs)) is ∙ ap length (all_lowered banks));
+      placed = subst Placed (sym is) (placed_lowered banks s.placed);
     }
 
-pub below_four : (low : List Bank) (count f : ℕ) → Sound low count → Taken (banks_of low) f → f < 4
-below_four low count f s t = let n = length_banks low in omega (arith, s.four, t.below)
+pub below_four : (low : List (List Job)) (count f : ℕ) → Sound low count → Taken low f → f < 4
+below_four low count f s t = omega (arith, s.four, t.below)
 
-pub some_counted : (low : List Bank) (count f : ℕ) → Sound low count → Taken (banks_of low) f → 1 ≤ count
-some_counted low count f s t = omega (arith, s.counted, more_length t.oldest.command (commands_all (set (banks_of low) f (tail_of (get_or (banks_of low) f [])))) (commands_all (banks_of low)) t.more)
+pub some_counted : (low : List (List Job)) (count f : ℕ) → Sound low count → Taken low f → 1 ≤ count
+some_counted low count f s t = omega (arith, s.counted, more_length t.oldest.command (commands_all (set low f (tail_of (get_or low f [])))) (commands_all low) t.more)
 
-pub sound_taken : (low after : List Bank) (count f : ℕ) → Sound low count → Taken (banks_of low) f → banks_of after ≡ set (banks_of low) f (tail_of (get_or (banks_of low) f [])) → Sound after (count - 1)
-sound_taken low after count f s t is =
-    let rest = set (banks_of low) f (tail_of (get_or (banks_of low) f [])) in
-    let fewer = more_length t.oldest.command (commands_all rest) (commands_all (banks_of low)) t.more in
-    let same = ap (λ banks. length (commands_all banks)) is in
+pub sound_taken : (low : List (List Job)) (count f : ℕ) → Sound low count → Taken low f → Sound (set low f (tail_of (get_or low f []))) (count - 1)
+sound_taken low count f s t =
+    let rest = set low f (tail_of (get_or low f [])) in
+    let fewer = more_length t.oldest.command (commands_all rest) (commands_all low) t.more in
     record {
-      four = sym (length_banks after) ∙ ap length is ∙ simp length-set (length_banks low ∙ s.four);
-      counted = omega (arith, s.counted, fewer, same);
-      placed = subst Placed (sym is) (placed_taken (banks_of low) f t.below s.placed);
+      four = simp length-set s.four;
+      counted = omega (arith, s.counted, fewer);
+      placed = placed_taken low f t.below s.placed;
     }
 
 pub same_lowered : (banks low : List (List Job)) → low ≡ map lowered banks → Same (commands_all banks) (commands_all low)

@@ -2,8 +2,7 @@
 use Rattle.std.proofs.Common.{◌≡◌, ℕ, suc, Bool, true, false, cond, ltb, List, [], ◌∷◌, ◌++◌, map, length, refl, ap, arith}
 use Rattle.std.proofs.lemmas.List.{length-map, map_push}
 use Rattle.card.specs.declared.Command.{Command}
-use Rattle.bank.specs.Jobs.{job, work_of, fresh, commands_in}
-use Rattle.bank.specs.Views.{jobs_from}
+use Rattle.bank.specs.Jobs.{job, jobs_from, work_of, fresh, commands_in}
 
 commands_fresh : (cs : List Command) → commands_in (map fresh cs) ≡ cs
 commands_fresh [] = refl

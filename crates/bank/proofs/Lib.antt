@@ -1,5 +1,5 @@
 mod Jobbed
-mod Four
 mod Bagged
+mod Submitting
 mod Finishing
 mod Picks

@@ -2,10 +2,16 @@
 use Rattle.std.proofs.Common.{◌≡◌, ℕ, zero, suc, ◌+◌, ◌-◌, ◌<◌, ◌≤◌, Bool, true, false, cond, List, [], ◌∷◌, map, length, get_or, set, Some, None, Option, sym, refl, ap, ◌∙◌, subst, arith, eqb-true}
 use borrow.Author.Tests.{clash, eqb-false}
 use Rattle.std.proofs.lemmas.List.{get_or-set_same, get_or-set_other}
+use Rattle.std.specs.List.{position_from}
 use Rattle.ring.specs.Rings.{head_of, tail_of}
 use Rattle.bank.specs.Jobs.{Job, lowered, ready}
 use Rattle.bank.specs.Rules.{answer_of, first_ready, take_from}
 use Rattle.bank.specs.Laws.{Waits, Answered, Laws}
+
+-- the first that is ready, as the library counts it
+pub positioned : (b : ℕ) (banks : List (List Job)) → position_from ready b banks ≡ first_ready b banks
+positioned b [] = refl
+positioned b (jobs ∷ banks) = ap (cond (ready jobs) (Some b)) (positioned (b + 1) banks)
 
 waits : (jobs : List Job) → ready jobs ≡ false → Waits jobs
 waits [] h = tt

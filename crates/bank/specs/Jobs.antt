@@ -19,6 +19,11 @@ work_of n = n / 64 + min 1 (n % 64)
 abbrev pub fresh : Command → Job
 fresh c = job c (work_of c.sectors)
 
+-- commands of which only the oldest was worked on
+abbrev pub jobs_from : ℕ → List Command → List Job
+jobs_from left [] = []
+jobs_from left (c ∷ rest) = job c left ∷ map fresh rest
+
 -- the commands of a bank
 abbrev pub commands_in : List Job → List Command
 commands_in jobs = map (λ j. j.command) jobs

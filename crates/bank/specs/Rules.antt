@@ -1,11 +1,15 @@
 -- What a bank card answers, and its banks then.
-use Rattle.std.specs.Prelude.{ℕ, ◌+◌, ◌%◌, cond, List, [], ◌∷◌, ◌++◌, map, length, Some, None, Ok, Err, Option, Result, nat_lt, slice_index_or, slice_set}
+use Rattle.std.specs.Prelude.{◌≡◌, ◌≢◌, false, ℕ, ◌+◌, ◌%◌, cond, List, [], ◌∷◌, ◌++◌, map, length, Some, None, Ok, Err, Option, Result, nat_lt, slice_index_or, slice_set}
 use Rattle.card.specs.declared.Command.{Command}
 use Rattle.card.specs.declared.CardFault.{CardFault}
 use Rattle.card.specs.declared.CardFault.TheVariants.{Full, HeldAlready}
 use Rattle.card.specs.Commands.{among}
 use Rattle.ring.specs.Rings.{head_of, tail_of}
-use Rattle.bank.specs.Jobs.{Job, commands_all, fresh, lowered, ready}
+use Rattle.bank.specs.Jobs.{Job, commands_all, commands_in, fresh, lowered, ready}
+
+-- each bank has only tickets of its own
+abbrev pub Placed : List (List Job) → Type 0
+Placed banks = (b t : ℕ) → (t % 4 ≢ b) → among t (commands_in (slice_index_or banks b [])) ≡ false
 
 -- one more job at the end of bank b
 abbrev pub put_in : List (List Job) → ℕ → Job → List (List Job)

@@ -4,10 +4,10 @@ ghost use Rattle.card.specs.Commands.{among};
 ghost use Rattle.ring.specs.Rings.{head_of, tail_of};
 ghost use Rattle.bank.specs.Jobs.{commands_in, fresh, lowered, ready, work_of};
 ghost use Rattle.bank.specs.Rules.{answer_of};
-ghost use Rattle.bank.specs.Views.{jobs_of};
 
 use card::Command;
 use ring::Ring;
+use std::marker::Model;
 
 #[derive(Drop)]
 pub(crate) struct Bank {
@@ -16,9 +16,19 @@ pub(crate) struct Bank {
     left: u16,
 }
 
+// Clauses see each command with the work left on it, oldest first.
+impl Model for Bank {
+    ghost use Rattle.std.specs.Prelude.{List};
+    ghost use Rattle.bank.specs.Jobs.{Job, jobs_from};
+
+    ghost Value = { List Job };
+
+    ghost view = { λ b. jobs_from b.left b.commands };
+}
+
 impl Bank {
     pub(crate) fn new() -> Bank
-        ensures { jobs_of result ≡ [] }
+        ensures { result ≡ [] }
     {
         Bank {
             commands: Ring::new(),
@@ -28,43 +38,43 @@ impl Bank {
 
     /// Whether a command with this ticket is in the bank.
     pub(crate) fn contains(&self, ticket: u32) -> bool
-        ensures { result ≡ among ticket (commands_in (jobs_of self.now)) }
+        ensures { result ≡ among ticket (commands_in self.now) }
     {
         self.commands.contains(ticket)
     }
 
     /// Puts a command behind the others; false, and nothing changes, where there is no place.
     pub(crate) fn push(&mut self, command: Command) -> bool
-        ensures room { result ≡ nat_lt (length (jobs_of self.old)) 32 }
-        ensures jobs { jobs_of self.new ≡ (if result then jobs_of self.old ++ fresh command ∷ [] else jobs_of self.old) }
+        ensures room { result ≡ nat_lt (length self.old) 32 }
+        ensures jobs { self.new ≡ (if result then self.old ++ fresh command ∷ [] else self.old) }
     {
-        let left = if self.commands.len() == 0 {
-            work(command.sectors)
-        } else {
-            self.left
-        };
-        self.left = left;
+        if self.commands.len() == 0 {
+            self.left = work(command.sectors);
+        }
         self.commands.push(command)
     }
 
-    /// Does one piece of the oldest command's work, and tells whether nothing is left of it.
-    pub(crate) fn lower(&mut self) -> bool
-        ensures jobs { jobs_of self.new ≡ lowered (jobs_of self.old) }
-        ensures done { result ≡ ready (jobs_of self.new) }
+    /// Does one piece of the oldest command's work.
+    pub(crate) fn lower(&mut self)
+        ensures { self.new ≡ lowered self.old }
     {
         self.left = self.left.saturating_sub(1);
+    }
+
+    /// Whether there is an oldest command, and nothing is left of it.
+    pub(crate) fn is_ready(&self) -> bool
+        ensures { result ≡ ready self.now }
+    {
         self.left == 0 && self.commands.len() > 0
     }
 
     /// Takes the oldest command out, and answers its ticket with status 0.
     pub(crate) fn pop(&mut self) -> Option<(u32, u8)>
-        ensures oldest { result ≡ answer_of (head_of (jobs_of self.old)) }
-        ensures rest { jobs_of self.new ≡ tail_of (jobs_of self.old) }
+        ensures oldest { result ≡ answer_of (head_of self.old) }
+        ensures rest { self.new ≡ tail_of self.old }
     {
         let done = self.commands.pop()?;
-        if let Some(next) = self.commands.oldest() {
-            self.left = work(next.sectors);
-        }
+        self.left = self.commands.oldest().map_or(0, |next| work(next.sectors));
         Some((done.ticket, 0))
     }
 }

@@ -1,22 +1,22 @@
 // What the bank card does when it is called.
-ghost use Rattle.std.specs.Prelude.{◌≡◌, ◌%◌, [], replicate};
+ghost use Rattle.std.specs.Prelude.{◌≡◌, ◌%◌, ◌<◌, [], map, length, replicate, IfSome};
 ghost use Rattle.card.specs.Commands.{Finished, Submitted};
-ghost use Rattle.bank.specs.Cards.{view};
-ghost use Rattle.bank.specs.Jobs.{commands_all};
+ghost use Rattle.bank.specs.Jobs.{commands_all, lowered};
 ghost use Rattle.bank.specs.Laws.{Laws};
-ghost use Rattle.bank.specs.Rules.{finish_rule, submit_rule};
+ghost use Rattle.bank.specs.Rules.{finish_rule, first_ready, submit_rule};
 
 use crate::BankCard;
-use crate::banks::Banks;
+use crate::bank::Bank;
 use card::{Card, CardFault, Command};
+use std::array;
 
 impl BankCard {
     /// A card that holds no command.
     pub fn new() -> BankCard
-        ensures { view result ≡ replicate 4 [] }
+        ensures { result ≡ replicate 4 [] }
     {
         BankCard {
-            banks: Banks::new(),
+            banks: array::from_fn(|_| Bank::new()),
             count: 0,
         }
     }
@@ -27,42 +27,58 @@ impl Card for BankCard {
 
     ghost DEPTH = { 32 };
 
-    ghost held = { λ c. commands_all (view c) };
+    ghost held = { λ c. commands_all c };
 
-    ghost finishes = { λ c r after. (r ≡ (finish_rule (view c)).0) × (view after ≡ (finish_rule (view c)).1) };
+    ghost finishes = { λ c r after. (r ≡ (finish_rule c).0) × (after ≡ (finish_rule c).1) };
 
     fn submit(&mut self, command: Command) -> Result<(), CardFault>
-        ensures card { Submitted 32 (commands_all (view self.old)) command result (commands_all (view self.new)) }
-        ensures answer { result ≡ (submit_rule (view self.old) command).0 }
-        ensures banks { view self.new ≡ (submit_rule (view self.old) command).1 }
+        ensures card { Submitted 32 (commands_all self.old) command result (commands_all self.new) }
+        ensures answer { result ≡ (submit_rule self.old command).0 }
+        ensures banks { self.new ≡ (submit_rule self.old command).1 }
     {
         if self.count >= Self::DEPTH {
             return Err(CardFault::Full);
         }
-        let b = bank_of(command.ticket);
-        if self.banks.contains(b, command.ticket) {
+        let bank = &mut self.banks[bank_of(command.ticket)];
+        if bank.contains(command.ticket) {
             return Err(CardFault::HeldAlready);
         }
-        self.banks.push(b, command);
+        bank.push(command);
         self.count += 1;
         Ok(())
     }
 
     fn finish(&mut self) -> Option<(u32, u8)>
-        ensures one { Finished (commands_all (view self.old)) result (commands_all (view self.new)) }
-        ensures answer { result ≡ (finish_rule (view self.old)).0 }
-        ensures banks { view self.new ≡ (finish_rule (view self.old)).1 }
+        ensures one { Finished (commands_all self.old) result (commands_all self.new) }
+        ensures answer { result ≡ (finish_rule self.old).0 }
+        ensures banks { self.new ≡ (finish_rule self.old).1 }
     {
-        let Some(first) = self.banks.lower() else {
-            return None;
-        };
+        lower(&mut self.banks);
+        let first = ready_bank(&self.banks)?;
         self.count -= 1;
-        self.banks.pop(first)
+        self.banks[first].pop()
     }
 
     fn count(&self) -> usize {
         self.count
     }
+}
+
+/// Does one piece of the work of each bank's oldest command.
+fn lower(banks: &mut [Bank])
+    ensures { banks.new ≡ map lowered banks.old }
+{
+    for bank in banks.iter_mut() {
+        bank.lower();
+    }
+}
+
+/// The first bank whose oldest command has nothing left to do.
+fn ready_bank(banks: &[Bank]) -> Option<usize>
+    ensures first { result ≡ first_ready 0 banks.now }
+    ensures there { IfSome result (λ b. b < length banks.now) }
+{
+    banks.iter().position(|bank| bank.is_ready())
 }
 
 /// The bank of a ticket.

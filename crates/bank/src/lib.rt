@@ -1,15 +1,10 @@
 //! The bank card: depth 32, four banks that work side by side.
 #![tactic(auto)]
 
-ghost use Rattle.std.specs.Prelude.{◌≡◌, ℕ, ◌%◌, false, [], length, ◌≢◌, slice_index_or};
-ghost use Rattle.card.specs.Commands.{among};
-ghost use Rattle.bank.specs.Jobs.{commands_all, commands_in};
-ghost use Rattle.bank.specs.Views.{banks_of};
-
-use crate::banks::Banks;
+use crate::bank::Bank;
+use std::marker::Model;
 
 mod bank;
-mod banks;
 mod calls;
 
 pub use crate::calls::bank_laws;
@@ -18,9 +13,19 @@ pub use crate::calls::bank_laws;
 /// Each finish does one piece of the work of every bank's oldest command, and answers one that has nothing left to do.
 #[derive(Drop)]
 pub struct BankCard {
-    banks: Banks,
+    banks: [Bank; 4],
     count: usize,
-    ghost four: { length banks.banks ≡ 4 },
-    ghost counted: { count ≡ length (commands_all (banks_of banks.banks)) },
-    ghost placed: { (b t : ℕ) → (t % 4 ≢ b) → among t (commands_in (slice_index_or (banks_of banks.banks) b [])) ≡ false },
+}
+
+// Clauses see the jobs of each bank, oldest first.
+impl Model for BankCard {
+    ghost use Rattle.std.specs.Prelude.{◌≡◌, List, length};
+    ghost use Rattle.bank.specs.Jobs.{Job, commands_all};
+    ghost use Rattle.bank.specs.Rules.{Placed};
+
+    ghost Value = { List (List Job) };
+
+    ghost view = { λ c. c.banks };
+
+    ghost invariant = { λ c. (c.count ≡ length (commands_all c.banks)) × Placed c.banks };
 }

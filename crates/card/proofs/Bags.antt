@@ -3,6 +3,7 @@ use Rattle.std.proofs.Common.{◌≡◌, ℕ, ◌+◌, ◌≤◌, true, false, c
 use Rattle.std.specs.List.Sorted.{IsPermutation}
 use Rattle.std.specs.List.{AllByRecursion}
 use Rattle.std.proofs.lemmas.List.Sorted.{IsPermutation-refl, IsPermutation-sym, IsPermutation-trans, IsPermutation-cons, IsPermutation-swap, length_permutation, sum_by-IsPermutation}
+use Rattle.std.proofs.Math.Bool.{or_assoc}
 use Rattle.std.proofs.ByRecursion.{all_shuffled}
 use Rattle.std.proofs.lemmas.List.Sums.{sum_by-cons}
 use Rattle.card.specs.declared.Command.{Command}
@@ -97,6 +98,10 @@ among-tally t (c ∷ cs) =
       | true ↦ sym (lt-ltb 0 (1 + tally t cs) (omega arith))
       | false ↦ rest ∙ ap (ltb 0) (sym (zero-add (tally t cs)))
     ]
+
+pub among-append : (t : ℕ) (xs ys : List Command) → among t (xs ++ ys) ≡ (among t xs || among t ys)
+among-append t [] ys = refl
+among-append t (x ∷ xs) ys = ap (λ b. eqb x.ticket t || b) (among-append t xs ys) ∙ sym (or_assoc (eqb x.ticket t) (among t xs) (among t ys))
 
 pub same_among : (t : ℕ) (xs ys : List Command) → Same xs ys → among t ys ≡ among t xs
 same_among t xs ys h = among-tally t ys ∙ ap (ltb 0) (same_tally t xs ys h) ∙ sym (among-tally t xs)

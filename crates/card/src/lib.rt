@@ -4,10 +4,10 @@
 ghost use Rattle.std.specs.Prelude.{◌≡◌, ℕ, ◌+◌, List, length, Option};
 ghost use Rattle.card.specs.declared.Command.{Command};
 ghost use Rattle.card.specs.Asking.{Asked};
-ghost use Rattle.card.specs.Commands.{Submitted, Finished};
+ghost use Rattle.card.specs.Commands.{Finished, Submitted, among};
 
 /// What a card is asked to do: a request's ticket, and its length in sectors.
-#[derive(Clone, Copy, PartialEq, Eq, Debug)]
+#[derive(Clone, Copy, Default, PartialEq, Eq, Debug)]
 pub struct Command {
     pub ticket: u32,
     pub sectors: u16,
@@ -50,11 +50,19 @@ pub trait Card {
         ensures { result ≡ length (held self.now) };
 }
 
+/// Whether a command with this ticket is among these.
+pub fn has_ticket(commands: &[Command], ticket: u32) -> bool
+    ensures { result ≡ among ticket commands.now }
+{
+    commands.iter().any(|c| c.ticket == ticket)
+}
+
 /// Asks a card `times` times to finish, and answers how many commands it finished.
 pub fn drain<C: Card>(card: &mut C, times: usize) -> usize
     ensures asked { Asked C.finishes card.old times result card.new }
     ensures gone { length (C.held card.old) ≡ length (C.held card.new) + result }
 {
+    // A loop: no clause of an iterator chain says how it leaves a card that its closure asked.
     let mut finished = 0;
     for _turn in 0..times {
         if card.finish().is_some() {

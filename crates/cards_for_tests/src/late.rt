@@ -9,7 +9,9 @@ use card::{Card, CardFault, Command};
 #[derive(Drop)]
 pub struct LateCard<C: Card> {
     card: C,
+    /// How many times it answers nothing before each time that the card is asked.
     pause: u32,
+    /// How many of them are left of this pause.
     left: u32,
 }
 

@@ -1,30 +1,24 @@
 // A card that finishes the newest command first.
-ghost use Rattle.std.specs.Prelude.{◌≡◌, ◌≤◌, [], ◌∷◌, ◌++◌, length, take, is_ok, if◌then◌else◌};
-ghost use Rattle.card.specs.Commands.{Submitted, among};
+ghost use Rattle.std.specs.Prelude.{◌≡◌, [], ◌∷◌, ◌++◌, is_ok, if◌then◌else◌};
+ghost use Rattle.card.specs.Commands.{Submitted};
 ghost use Rattle.cards_for_tests.specs.Choices.{Newest};
 
-use card::{Card, CardFault, Command};
+use arrayvec::ArrayVec;
+use card::{Card, CardFault, Command, has_ticket};
 
 /// Depth 32; finish answers the newest command, with its ticket's lowest byte for a status.
 #[derive(Drop)]
 pub struct NewestCard {
-    commands: [Command; 32],
-    len: usize,
-    ghost sized: { length commands ≡ 32 },
-    ghost within: { len ≤ 32 },
+    commands: ArrayVec<Command, 32>,
 }
 
 impl NewestCard {
     /// A card that holds no command.
     pub fn new() -> NewestCard
-        ensures { take result.len result.commands ≡ [] }
+        ensures { result.commands.items ≡ [] }
     {
         NewestCard {
-            commands: [Command {
-                ticket: 0,
-                sectors: 0,
-            }; 32],
-            len: 0,
+            commands: ArrayVec::new(),
         }
     }
 }
@@ -34,47 +28,30 @@ impl Card for NewestCard {
 
     ghost DEPTH = { 32 };
 
-    ghost held = { λ c. take c.len c.commands };
+    ghost held = { λ c. c.commands.items };
 
-    ghost finishes = { λ c r after. Newest (take c.len c.commands) r (take after.len after.commands) };
+    ghost finishes = { λ c r after. Newest c.commands.items r after.commands.items };
 
     fn submit(&mut self, command: Command) -> Result<(), CardFault>
-        ensures card { Submitted 32 (take self.old.len self.old.commands) command result (take self.new.len self.new.commands) }
-        ensures order { take self.new.len self.new.commands ≡ take self.old.len self.old.commands ++ (if is_ok result then command ∷ [] else []) }
+        ensures card { Submitted 32 self.old.commands.items command result self.new.commands.items }
+        ensures order { self.new.commands.items ≡ self.old.commands.items ++ (if is_ok result then command ∷ [] else []) }
     {
-        if self.len >= Self::DEPTH {
+        if self.commands.len() >= Self::DEPTH {
             return Err(CardFault::Full);
         }
-        if has(&self.commands[0..self.len], command.ticket) {
+        if has_ticket(&self.commands, command.ticket) {
             return Err(CardFault::HeldAlready);
         }
-        self.commands[self.len] = command;
-        self.len += 1;
+        self.commands.push(command);
         Ok(())
     }
 
     fn finish(&mut self) -> Option<(u32, u8)> {
-        if self.len == 0 {
-            return None;
-        }
-        self.len -= 1;
-        let newest = self.commands[self.len].ticket;
-        Some((newest, (newest % 256) as u8))
+        let newest = self.commands.pop()?;
+        Some((newest.ticket, newest.ticket.to_le_bytes()[0]))
     }
 
     fn count(&self) -> usize {
-        self.len
+        self.commands.len()
     }
-}
-
-/// Whether a command with this ticket is among these.
-fn has(commands: &[Command], ticket: u32) -> bool
-    ensures { result ≡ among ticket commands.now }
-{
-    for c in commands {
-        if c.ticket == ticket {
-            return true;
-        }
-    }
-    false
 }

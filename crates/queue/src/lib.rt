@@ -3,7 +3,6 @@
 
 ghost use Rattle.std.specs.Prelude.{◌≡◌, []};
 ghost use Rattle.card.specs.Commands.{Finished, Submitted};
-ghost use Rattle.ring.specs.Rings.{commands_of};
 ghost use Rattle.queue.specs.Fifo.{Fifo};
 ghost use Rattle.queue.specs.Queues.{finish_rule, submit_rule};
 
@@ -19,7 +18,7 @@ pub struct QueueCard {
 impl QueueCard {
     /// A card that holds no command.
     pub fn new() -> QueueCard
-        ensures { commands_of result.commands ≡ [] }
+        ensures { result.commands ≡ [] }
     {
         QueueCard {
             commands: Ring::new(),
@@ -32,14 +31,14 @@ impl Card for QueueCard {
 
     ghost DEPTH = { 16 };
 
-    ghost held = { λ q. commands_of q.commands };
+    ghost held = { λ q. q.commands };
 
-    ghost finishes = { λ q r after. (r ≡ (finish_rule (commands_of q.commands)).0) × (commands_of after.commands ≡ (finish_rule (commands_of q.commands)).1) };
+    ghost finishes = { λ q r after. (r ≡ (finish_rule q.commands).0) × (after.commands ≡ (finish_rule q.commands).1) };
 
     fn submit(&mut self, command: Command) -> Result<(), CardFault>
-        ensures card { Submitted 16 (commands_of self.old.commands) command result (commands_of self.new.commands) }
-        ensures answer { result ≡ (submit_rule (commands_of self.old.commands) command).0 }
-        ensures queue { commands_of self.new.commands ≡ (submit_rule (commands_of self.old.commands) command).1 }
+        ensures card { Submitted 16 self.old.commands command result self.new.commands }
+        ensures answer { result ≡ (submit_rule self.old.commands command).0 }
+        ensures queue { self.new.commands ≡ (submit_rule self.old.commands command).1 }
     {
         if self.commands.len() >= Self::DEPTH {
             return Err(CardFault::Full);
@@ -52,9 +51,9 @@ impl Card for QueueCard {
     }
 
     fn finish(&mut self) -> Option<(u32, u8)>
-        ensures one { Finished (commands_of self.old.commands) result (commands_of self.new.commands) }
-        ensures answer { result ≡ (finish_rule (commands_of self.old.commands)).0 }
-        ensures queue { commands_of self.new.commands ≡ (finish_rule (commands_of self.old.commands)).1 }
+        ensures one { Finished self.old.commands result self.new.commands }
+        ensures answer { result ≡ (finish_rule self.old.commands).0 }
+        ensures queue { self.new.commands ≡ (finish_rule self.old.commands).1 }
     {
         let oldest = self.commands.pop()?;
         Some((oldest.ticket, 0))

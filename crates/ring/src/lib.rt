@@ -1,20 +1,29 @@
 //! Commands in the order in which they came, in a circle of places.
 #![tactic(auto)]
 
-ghost use Rattle.std.specs.Prelude.{◌≡◌, ℕ, ◌-◌, ◌≤◌, length};
-
 mod methods;
+
+use card::Command;
+use std::marker::Model;
 
 /// At most `N` commands, oldest first.
 #[derive(Drop)]
 pub struct Ring<const N: usize> {
-    tickets: [u32; N],
-    sectors: [u16; N],
+    places: [Command; N],
     /// The place of the oldest.
     first: usize,
     len: usize,
-    ghost tickets_fill: { length tickets ≡ N },
-    ghost sectors_fill: { length sectors ≡ N },
-    ghost starts: { first ≤ N - 1 },
-    ghost within: { len ≤ N },
+}
+
+// Clauses see the commands, oldest first.
+impl<const N: usize> Model for Ring<N> {
+    ghost use Rattle.std.specs.Prelude.{List, ◌-◌, ◌≤◌};
+    ghost use Rattle.card.specs.declared.Command.{Command};
+    ghost use Rattle.ring.specs.Circle.{window};
+
+    ghost Value = { List Command };
+
+    ghost view = { λ r. window r.first r.len r.places };
+
+    ghost invariant = { λ r. (r.first ≤ N - 1) × (r.len ≤ N) };
 }

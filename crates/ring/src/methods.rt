@@ -1,20 +1,19 @@
 // What a ring can be asked and told.
 ghost use Rattle.std.specs.Prelude.{◌≡◌, ◌+◌, ◌-◌, ◌<◌, ◌≤◌, [], ◌∷◌, ◌++◌, length, if◌then◌else◌, nat_lt};
-ghost use Rattle.card.specs.Commands.{among, command};
-ghost use Rattle.ring.specs.Circle.{listed, wrap};
-ghost use Rattle.ring.specs.Rings.{commands_of, head_of, tail_of};
+ghost use Rattle.card.specs.Commands.{among};
+ghost use Rattle.ring.specs.Circle.{wrap};
+ghost use Rattle.ring.specs.Rings.{head_of, tail_of};
 
 use crate::Ring;
-use card::Command;
+use card::{Command, has_ticket};
 
 impl<const N: usize> Ring<N> {
     /// A ring that holds no command.
     pub fn new() -> Ring<N>
-        ensures { commands_of result ≡ [] }
+        ensures { result ≡ [] }
     {
         Ring {
-            tickets: [0; N],
-            sectors: [0; N],
+            places: [Command::default(); N],
             first: 0,
             len: 0,
         }
@@ -22,28 +21,27 @@ impl<const N: usize> Ring<N> {
 
     /// How many commands are held.
     pub fn len(&self) -> usize
-        ensures { result ≡ length (commands_of self.now) }
+        ensures count { result ≡ length self.now }
+        ensures within { result ≤ N }
     {
+        let _ = &self.places;
         self.len
     }
 
     /// The oldest command.
     pub fn oldest(&self) -> Option<Command>
-        ensures { result ≡ head_of (commands_of self.now) }
+        ensures { result ≡ head_of self.now }
     {
         if self.len == 0 {
             return None;
         }
-        Some(Command {
-            ticket: self.tickets[self.first],
-            sectors: self.sectors[self.first],
-        })
+        Some(self.places[self.first])
     }
 
     /// Takes the oldest command out.
     pub fn pop(&mut self) -> Option<Command>
-        ensures oldest { result ≡ head_of (commands_of self.old) }
-        ensures rest { commands_of self.new ≡ tail_of (commands_of self.old) }
+        ensures oldest { result ≡ head_of self.old }
+        ensures rest { self.new ≡ tail_of self.old }
     {
         let oldest = self.oldest()?;
         self.first = next::<N>(self.first);
@@ -53,51 +51,52 @@ impl<const N: usize> Ring<N> {
 
     /// Puts a command behind the others; false, and nothing changes, where there is no place.
     pub fn push(&mut self, command: Command) -> bool
-        ensures room { result ≡ nat_lt (length (commands_of self.old)) N }
-        ensures held { commands_of self.new ≡ (if result then commands_of self.old ++ command ∷ [] else commands_of self.old) }
+        ensures room { result ≡ nat_lt (length self.old) N }
+        ensures held { self.new ≡ (if result then self.old ++ command ∷ [] else self.old) }
     {
         if self.len >= N {
             return false;
         }
-        let free = self.free_place();
-        self.tickets[free] = command.ticket;
-        self.sectors[free] = command.sectors;
+        let free = free_place::<N>(self.first, self.len);
+        self.places[free] = command;
         self.len += 1;
         true
     }
 
     /// Whether a command with this ticket is held.
     pub fn contains(&self, ticket: u32) -> bool
-        ensures { result ≡ among ticket (commands_of self.now) }
+        ensures { result ≡ among ticket self.now }
     {
-        // The places hold old tickets too, so that a ticket that is seen is not always held; mostly none is seen.
-        seen(&self.tickets, ticket) && self.contains_slowly(ticket)
+        // Mostly no place has the ticket, and `seen` tells it soon: a call of the bench takes 237 instructions, and 247 without
+        // it. The places hold old commands too, so where one has the ticket those held are looked at.
+        if !seen(&self.places, ticket) {
+            return false;
+        }
+        let (older, newer) = self.runs();
+        has_ticket(older, ticket) || has_ticket(newer, ticket)
     }
 
-    /// The place behind the newest command.
-    fn free_place(&self) -> usize
-        requires { self.now.len < N }
-        ensures { (result ≡ wrap N (self.now.first + self.now.len)) × (result < N) }
+    /// The commands in two runs, oldest first: up to the last place, and on from place 0.
+    fn runs(&self) -> (&[Command], &[Command])
+        ensures { result.0.now ++ result.1.now ≡ self.now }
     {
-        let to_end = N - self.first;
-        if self.len < to_end {
-            self.first + self.len
-        } else {
-            self.len - to_end
-        }
+        let (low, high) = self.places.split_at(self.first);
+        let round = self.len.saturating_sub(high.len());
+        (&high[..self.len - round], &low[..round])
     }
+}
 
-    fn contains_slowly(&self, ticket: u32) -> bool
-        ensures { result ≡ among ticket (commands_of self.now) }
-    {
-        let mut place = self.first;
-        for _i in 0..self.len {
-            if self.tickets[place] == ticket {
-                return true;
-            }
-            place = next::<N>(place);
-        }
-        false
+/// The place behind the newest of `len` commands, in a circle of `N`.
+fn free_place<const N: usize>(first: usize, len: usize) -> usize
+    requires starts { first < N }
+    requires room { len < N }
+    ensures { (result ≡ wrap N (first + len)) × (result < N) }
+{
+    let to_end = N - first;
+    if len < to_end {
+        first + len
+    } else {
+        len - to_end
     }
 }
 
@@ -109,13 +108,11 @@ fn next<const N: usize>(place: usize) -> usize
     if place + 1 < N { place + 1 } else { 0 }
 }
 
-/// Whether a ticket lies at any place. It looks at all of them, without a branch.
-fn seen(tickets: &[u32], ticket: u32) -> bool
-    ensures { result ≡ listed ticket tickets.now }
+/// Whether a ticket lies at any place, as `has_ticket`, but without a branch: it looks at all of them.
+fn seen(places: &[Command], ticket: u32) -> bool
+    ensures { result ≡ among ticket places.now }
 {
-    let mut any = false;
-    for t in tickets {
-        any |= *t == ticket;
-    }
-    any
+    places
+        .iter()
+        .fold(false, |any, c| any | (c.ticket == ticket))
 }

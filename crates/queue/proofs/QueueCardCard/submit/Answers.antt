@@ -1,15 +1,14 @@
 use Rattle.std.proofs.Common.{◌≡◌, ◌<◌, false, [], ◌∷◌, ◌++◌, length, sym, ap, ◌∙◌, arith}
 use Rattle.card.specs.Commands.{among}
 use Rattle.card.proofs.Bags.{more_end}
-use Rattle.ring.specs.Rings.{commands_of}
 use Rattle.ring.proofs.Uses.{pushed_room}
 use Rattle.queue.proofs.Queued.{submit_taken}
 use Rattle.queue.proofs.QueueCardCard.submit.Goals as goal
 
 pub returns : goal.returns
 returns c =
-    let before = commands_of c.args.self.now.commands in
-    let after = commands_of c.push.new.self in
+    let before = c.args.self.now.commands in
+    let after = c.push.new.self in
     let d = c.args.command in
     let room : length before < 16 = omega arith in
     let new : among d.ticket before ≡ false = sym c.if-contains.ensures in

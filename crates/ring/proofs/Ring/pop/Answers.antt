@@ -1,15 +1,12 @@
-use Rattle.std.proofs.Common.{◌-◌, sym, ap, ◌∙◌}
-use Rattle.ring.specs.Circle.{around}
-use Rattle.ring.specs.Rings.{command_at, tail_of}
-use Rattle.ring.proofs.Circles.{around_some, some_from_head}
+use Rattle.std.proofs.Common.{◌-◌, ◌<◌, sym, ap, ◌∙◌, arith, rules}
+use Rattle.ring.specs.Circle.{window}
+use Rattle.ring.specs.Rings.{tail_of}
+use Rattle.ring.proofs.Circles.{window_pop}
 use Rattle.ring.proofs.Ring.pop.Goals as goal
 
-pub returns : goal.returns
-returns g c =
-    let r = c.args.self.now in
-    let at = command_at r.tickets r.sectors in
-    let some = some_from_head at g.row.N r.first r.len c.in_ok-oldest.oldest c.in_ok-oldest.ensures in
-    record {
-      oldest = c.in_ok-oldest.ensures;
-      rest = ap (λ p. around at g.row.N p (r.len - 1)) c.next-self.ensures ∙ ap tail_of (sym (around_some at g.row.N r.first r.len some));
-    }
+pub returns-clause-rest : goal.returns-clause-rest
+returns-clause-rest g c =
+    let q = c.self.inside in
+    let some : 0 < q.len = search rules in
+    let split = window_pop g.row.N q.first q.len q.places (omega (arith, c.self.invariant.0, c.self.invariant.1)) c.self.invariant.1 (search rules) c.in_ok-oldest.oldest some in
+    ap (λ p. window p (q.len - 1) q.places) c.next-self-inside.ensures ∙ ap tail_of (sym split ∙ c.self.view_is)

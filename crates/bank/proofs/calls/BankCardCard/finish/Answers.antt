@@ -1,54 +1,55 @@
-use Rattle.std.proofs.Common.{sym, ap, ◌∙◌}
-use Rattle.bank.specs.Views.{banks_of}
-use Rattle.bank.proofs.Bagged.{taken}
-use Rattle.bank.proofs.Finishing.{sound_lowered, below_four, some_counted, sound_taken, same_lowered, rule_none, rule_some, finished_taken}
+use Rattle.std.proofs.Common.{◌-◌, [], None, set, sym, ap, ◌∙◌, subst, rules}
+use Rattle.std.proofs.lemmas.List.{get_or_default}
+use Rattle.card.specs.Commands.{Finished}
+use Rattle.ring.specs.Rings.{head_of, tail_of}
+use Rattle.bank.specs.Jobs.{commands_all}
+use Rattle.bank.specs.Rules.{answer_of, finish_rule}
+use Rattle.bank.proofs.Bagged.{Sound, taken}
+use Rattle.bank.proofs.Finishing.{sound_lowered, some_counted, sound_taken, same_lowered, rule_some, finished_taken}
 use Rattle.bank.proofs.calls.BankCardCard.finish.Goals as goal
 
 pub invariant_of-self : goal.invariant_of-self
 invariant_of-self c =
-    let card = c.args.self.now in
-    let s = sound_lowered card.banks.banks c.lower.new.self.banks card.count record { four = card.four; counted = card.counted; placed = card.placed } c.lower.ensures.banks in
-    record { four = s.four; counted = s.counted; placed = s.placed }
+    let q = c.self.inside in
+    let s = sound_lowered q.banks c.lower.new.banks q.count record { four = search rules; counted = c.self.invariant.0; placed = c.self.invariant.1 } c.lower.ensures in
+    (s.counted, s.placed)
 
-pub returns-in_default : goal.returns-in_default
-returns-in_default c =
-    let banks = banks_of c.args.self.now.banks.banks in
-    let low = banks_of c.lower.new.self.banks in
-    let rule = rule_none banks low c.lower.ensures.banks c.in_default.ensures.first in
-    record { one = same_lowered banks low c.lower.ensures.banks; answer = sym (ap (λ p. p.0) rule); banks = sym (ap (λ p. p.1) rule) }
+pub returns-in_err-first-clause-one : goal.returns-in_err-first-clause-one
+returns-in_err-first-clause-one c =
+    let low = c.lower.new.banks in
+    subst (λ r. Finished (commands_all c.args.self.now) r (commands_all low)) (sym c.from_residual.ensures)
+    (subst (λ n. Finished (commands_all n) None (commands_all low)) c.self.view_is (same_lowered c.self.inside.banks low c.lower.ensures))
 
 pub overflow_sub-self : goal.overflow_sub-self
 overflow_sub-self c =
-    let card = c.args.self.now in
-    let low = c.lower.new.self.banks in
-    let s = sound_lowered card.banks.banks low card.count record { four = card.four; counted = card.counted; placed = card.placed } c.lower.ensures.banks in
-    some_counted low card.count c.in-Some.first s (taken (banks_of low) c.in-Some.first c.in-Some.ensures.first)
-
-pub pop-requires : goal.pop-requires
-pop-requires c =
-    let card = c.args.self.now in
-    let low = c.lower.new.self.banks in
-    let s = sound_lowered card.banks.banks low card.count record { four = card.four; counted = card.counted; placed = card.placed } c.lower.ensures.banks in
-    below_four low card.count c.in-Some.first s (taken (banks_of low) c.in-Some.first c.in-Some.ensures.first)
+    let q = c.self.inside in
+    let low = c.lower.new.banks in
+    let s = sound_lowered q.banks low q.count record { four = search rules; counted = c.self.invariant.0; placed = c.self.invariant.1 } c.lower.ensures in
+    some_counted low q.count c.in_ok-first.first s (taken low c.in_ok-first.first c.in_ok-first.ensures.first)
 
 pub invariant_of-self-2 : goal.invariant_of-self-2
 invariant_of-self-2 c =
-    let card = c.args.self.now in
-    let low = c.lower.new.self.banks in
-    let f = c.in-Some.first in
-    let s = sound_lowered card.banks.banks low card.count record { four = card.four; counted = card.counted; placed = card.placed } c.lower.ensures.banks in
-    let after = sound_taken low c.pop.new.self.banks card.count f s (taken (banks_of low) f c.in-Some.ensures.first) c.pop.ensures.rest in
-    record { four = after.four; counted = after.counted; placed = after.placed }
+    let q = c.self.inside in
+    let low = c.lower.new.banks in
+    let f = c.in_ok-first.first in
+    let s = sound_lowered q.banks low q.count record { four = search rules; counted = c.self.invariant.0; placed = c.self.invariant.1 } c.lower.ensures in
+    let here = get_or_default low f c.index-self-first.result [] c.in_ok-first.ensures.there in
+    let after = subst (λ jobs. Sound (set low f jobs) (q.count - 1)) (sym (c.pop.ensures.rest ∙ ap tail_of here)) (sound_taken low q.count f s (taken low f c.in_ok-first.ensures.first)) in
+    (after.counted, after.placed)
 
-pub returns : goal.returns
-returns c =
-    let banks = banks_of c.args.self.now.banks.banks in
-    let low = banks_of c.lower.new.self.banks in
-    let f = c.in-Some.first in
-    let t = taken low f c.in-Some.ensures.first in
-    let rule = rule_some banks low f c.lower.ensures.banks c.in-Some.ensures.first in
-    record {
-      one = finished_taken banks low (banks_of c.pop.new.self.banks) f c.pop.result c.lower.ensures.banks t c.pop.ensures.oldest c.pop.ensures.rest;
-      answer = c.pop.ensures.oldest ∙ sym (ap (λ p. p.0) rule);
-      banks = c.pop.ensures.rest ∙ sym (ap (λ p. p.1) rule);
-    }
+pub returns-clause-one : goal.returns-clause-one
+returns-clause-one c =
+    let q = c.self.inside in
+    let low = c.lower.new.banks in
+    let f = c.in_ok-first.first in
+    let here = get_or_default low f c.index-self-first.result [] c.in_ok-first.ensures.there in
+    subst (λ n. Finished (commands_all n) c.pop.result (commands_all (set low f c.pop.new.self))) c.self.view_is
+    (finished_taken q.banks low (set low f c.pop.new.self) f c.pop.result c.lower.ensures (taken low f c.in_ok-first.ensures.first) (c.pop.ensures.oldest ∙ ap (λ jobs. answer_of (head_of jobs)) here) (ap (set low f) (c.pop.ensures.rest ∙ ap tail_of here)))
+
+pub returns-clause-answer : goal.returns-clause-answer
+returns-clause-answer c =
+    let q = c.self.inside in
+    let low = c.lower.new.banks in
+    let f = c.in_ok-first.first in
+    let here = get_or_default low f c.index-self-first.result [] c.in_ok-first.ensures.there in
+    c.pop.ensures.oldest ∙ ap (λ jobs. answer_of (head_of jobs)) here ∙ sym (ap (λ p. p.0) (rule_some q.banks low f c.lower.ensures c.in_ok-first.ensures.first)) ∙ ap (λ n. (finish_rule n).0) c.self.view_is

@@ -1,57 +1,75 @@
-use Rattle.std.proofs.Common.{◌≡◌, ◌+◌, ◌%◌, ◌<◌, true, false, [], length, get_or, sym, ap, ◌∙◌, subst, arith, length-set}
-use Rattle.card.specs.Commands.{among, More}
-use Rattle.card.proofs.Bags.{more_length, same_refl}
-use Rattle.bank.specs.Jobs.{commands_all, commands_in, fresh}
-use Rattle.bank.specs.Rules.{put_in}
-use Rattle.bank.specs.Views.{banks_of}
-use Rattle.bank.proofs.Bagged.{Placed, among_placed, bank_le, more_put, placed_put, submit_held, submit_put}
-use Rattle.bank.proofs.Four.{length_banks}
+use Rattle.std.proofs.Common.{◌≡◌, ◌+◌, ◌<◌, true, false, length, get_or, set, Ok, Err, sym, ap, ◌∙◌, subst, arith, rules}
+use Rattle.std.proofs.lemmas.List.{set-get_or}
+use Rattle.card.specs.declared.CardFault.TheVariants.{HeldAlready}
+use Rattle.card.specs.Commands.{among, Same, Submitted}
+use Rattle.card.proofs.Bags.{same_refl}
+use Rattle.bank.specs.Jobs.{commands_all}
+use Rattle.bank.specs.Rules.{submit_rule}
+use Rattle.bank.proofs.Bagged.{Sound, submit_held, submit_put}
+use Rattle.bank.proofs.Submitting.{decides, puts, submitted_put, sound_put}
 use Rattle.bank.proofs.calls.BankCardCard.submit.Goals as goal
+use Rattle.bank.proofs.calls.BankCardCard.submit.Goals.{Then-contains}
 
-pub returns-then-contains : goal.returns-then-contains
-returns-then-contains c =
-    let card = c.args.self.now in
-    let banks = banks_of card.banks.banks in
-    let t = c.args.command.ticket in
-    let room : length (commands_all banks) < 32 = omega (arith, card.counted) in
-    let held : among t (commands_all banks) ≡ true = among_placed t banks (length_banks card.banks.banks ∙ card.four) card.placed ∙ sym (c.if-contains.ensures ∙ ap (λ b. among t (commands_in (get_or banks b []))) c.bank_of-b.ensures) in
-    let rule = submit_held banks c.args.command room held in
-    record { card = (room, held, same_refl (commands_all banks)); answer = sym (ap (λ p. p.0) rule); banks = sym (ap (λ p. p.1) rule) }
+-- the card is sound, has room, and holds the ticket
+held : (c : Then-contains) → Sound c.self.inside.banks c.self.inside.count × (length (commands_all c.self.inside.banks) < 32) × (among c.args.command.ticket (commands_all c.self.inside.banks) ≡ true)
+held c =
+    let q = c.self.inside in
+    let s : Sound q.banks q.count = record { four = search rules; counted = c.self.invariant.0; placed = c.self.invariant.1 } in
+    (s, omega (arith, s.counted), decides q.banks q.count c.args.command c.bank_of.result c.index-self-bank_of.result s c.bank_of.ensures true (sym c.if-contains.true ∙ c.contains.ensures))
 
-pub push-requires : goal.push-requires
-push-requires c =
-    let card = c.args.self.now in
-    record { there = omega arith; room = omega (arith, card.counted, bank_le (banks_of card.banks.banks) c.bank_of-b.result) }
+pub returns-then-contains-clause-card : goal.returns-then-contains-clause-card
+returns-then-contains-clause-card c =
+    let q = c.self.inside in
+    let b = c.bank_of.result in
+    let d = c.index-self-bank_of.result in
+    let h = held c in
+    subst (λ n. Submitted 32 (commands_all n) c.args.command (Err HeldAlready) (commands_all (set q.banks b (get_or q.banks b d)))) c.self.view_is
+    (h.1, h.2, subst (λ n. Same (commands_all q.banks) (commands_all n)) (sym (set-get_or q.banks b d)) (same_refl (commands_all q.banks)))
 
-pub invariant_of-self : goal.invariant_of-self
-invariant_of-self c =
-    let card = c.args.self.now in
-    let banks = banks_of card.banks.banks in
+pub returns-then-contains-clause-answer : goal.returns-then-contains-clause-answer
+returns-then-contains-clause-answer c =
+    let h = held c in
+    sym (ap (λ p. p.0) (submit_held c.self.inside.banks c.args.command h.1 h.2)) ∙ ap (λ n. (submit_rule n c.args.command).0) c.self.view_is
+
+pub returns-then-contains-clause-banks : goal.returns-then-contains-clause-banks
+returns-then-contains-clause-banks c =
+    let h = held c in
+    set-get_or c.self.inside.banks c.bank_of.result c.index-self-bank_of.result ∙ sym (ap (λ p. p.1) (submit_held c.self.inside.banks c.args.command h.1 h.2)) ∙ ap (λ n. (submit_rule n c.args.command).1) c.self.view_is
+
+pub invariant_of-self-2 : goal.invariant_of-self-2
+invariant_of-self-2 c =
+    let q = c.self.inside in
     let d = c.args.command in
-    let t = d.ticket in
-    let after = banks_of c.push.new.self.banks in
-    let four : length banks ≡ 4 = length_banks card.banks.banks ∙ card.four in
-    let put : after ≡ put_in banks (t % 4) (fresh d) = c.push.ensures ∙ ap (λ b. put_in banks b (fresh d)) c.bank_of-b.ensures in
-    let long : length after ≡ 4 = ap length put ∙ simp length-set four in
-    let more : More d (commands_all banks) (commands_all after) = subst (λ bs. More d (commands_all banks) (commands_all bs)) (sym put) (more_put banks (t % 4) d (omega arith)) in
-    let count = more_length d (commands_all banks) (commands_all after) more in
-    record {
-      four = sym (length_banks c.push.new.self.banks) ∙ long;
-      counted = ap (λ k. k + 1) card.counted ∙ sym count;
-      placed = subst Placed (sym put) (placed_put banks d four card.placed);
-    }
+    let s : Sound q.banks q.count = record { four = search rules; counted = c.self.invariant.0; placed = c.self.invariant.1 } in
+    let put = puts q.banks q.count d c.bank_of.result c.index-self-bank_of.result s c.bank_of.ensures c.push.result c.push.new.self (omega arith) c.push.ensures.room c.push.ensures.jobs in
+    let after = sound_put q.banks q.count d c.bank_of.result c.index-self-bank_of.result s c.bank_of.ensures in
+    let s' = subst (λ n. Sound n (q.count + 1)) (sym put) after in
+    (s'.counted, s'.placed)
 
-pub returns : goal.returns
-returns c =
-    let card = c.args.self.now in
-    let banks = banks_of card.banks.banks in
+pub returns-clause-card : goal.returns-clause-card
+returns-clause-card c =
+    let q = c.self.inside in
     let d = c.args.command in
-    let t = d.ticket in
-    let after = banks_of c.push.new.self.banks in
-    let four : length banks ≡ 4 = length_banks card.banks.banks ∙ card.four in
-    let put : after ≡ put_in banks (t % 4) (fresh d) = c.push.ensures ∙ ap (λ b. put_in banks b (fresh d)) c.bank_of-b.ensures in
-    let room : length (commands_all banks) < 32 = omega (arith, card.counted) in
-    let new : among t (commands_all banks) ≡ false = among_placed t banks four card.placed ∙ sym (c.if-contains.ensures ∙ ap (λ b. among t (commands_in (get_or banks b []))) c.bank_of-b.ensures) in
-    let more : More d (commands_all banks) (commands_all after) = subst (λ bs. More d (commands_all banks) (commands_all bs)) (sym put) (more_put banks (t % 4) d (omega arith)) in
-    let rule = submit_put banks d room new in
-    record { card = (room, new, more); answer = sym (ap (λ p. p.0) rule); banks = put ∙ sym (ap (λ p. p.1) rule) }
+    let s : Sound q.banks q.count = record { four = search rules; counted = c.self.invariant.0; placed = c.self.invariant.1 } in
+    let new = decides q.banks q.count d c.bank_of.result c.index-self-bank_of.result s c.bank_of.ensures false (sym c.if-contains.false ∙ c.contains.ensures) in
+    let put = puts q.banks q.count d c.bank_of.result c.index-self-bank_of.result s c.bank_of.ensures c.push.result c.push.new.self (omega arith) c.push.ensures.room c.push.ensures.jobs in
+    let did = submitted_put q.banks q.count d c.bank_of.result c.index-self-bank_of.result s c.bank_of.ensures (omega arith) new in
+    subst (λ n. Submitted 32 (commands_all n) d (Ok tt) (commands_all (set q.banks c.bank_of.result c.push.new.self))) c.self.view_is
+    (subst (λ n. Submitted 32 (commands_all q.banks) d (Ok tt) (commands_all n)) (sym put) did)
+
+pub returns-clause-answer : goal.returns-clause-answer
+returns-clause-answer c =
+    let q = c.self.inside in
+    let d = c.args.command in
+    let s : Sound q.banks q.count = record { four = search rules; counted = c.self.invariant.0; placed = c.self.invariant.1 } in
+    let new = decides q.banks q.count d c.bank_of.result c.index-self-bank_of.result s c.bank_of.ensures false (sym c.if-contains.false ∙ c.contains.ensures) in
+    sym (ap (λ p. p.0) (submit_put q.banks d (omega (arith, s.counted)) new)) ∙ ap (λ n. (submit_rule n d).0) c.self.view_is
+
+pub returns-clause-banks : goal.returns-clause-banks
+returns-clause-banks c =
+    let q = c.self.inside in
+    let d = c.args.command in
+    let s : Sound q.banks q.count = record { four = search rules; counted = c.self.invariant.0; placed = c.self.invariant.1 } in
+    let new = decides q.banks q.count d c.bank_of.result c.index-self-bank_of.result s c.bank_of.ensures false (sym c.if-contains.false ∙ c.contains.ensures) in
+    let put = puts q.banks q.count d c.bank_of.result c.index-self-bank_of.result s c.bank_of.ensures c.push.result c.push.new.self (omega arith) c.push.ensures.room c.push.ensures.jobs in
+    put ∙ sym (ap (λ p. p.1) (submit_put q.banks d (omega (arith, s.counted)) new)) ∙ ap (λ n. (submit_rule n d).1) c.self.view_is

@@ -1,12 +1,6 @@
-use Rattle.std.proofs.Common.{sym, arith, length-take}
-use native.Mathlib.Nat.{sub-zero}
-use Rattle.std.proofs.lemmas.List.{take_more_set}
+use Rattle.std.proofs.Common.{arith, rules}
 use Rattle.card.proofs.Bags.{more_end}
 use Rattle.cards_for_tests.proofs.newest.NewestCardCard.submit.Goals as goal
 
-pub returns : goal.returns
-returns c =
-    let q = c.args.self.now in
-    let new = c.args.command in
-    let order = take_more_set q.commands q.len new (omega arith) in
-    record { card = (simp length-take (omega arith), sym (simp sub-zero at c.if-has.ensures), more_end new _ _ order); order = order }
+pub returns-clause-card : goal.returns-clause-card
+returns-clause-card c = (omega arith, search rules, more_end c.args.command _ _ c.push.ensures.items)

@@ -1,33 +1,52 @@
 -- One submit to a bank card: the bank of the ticket decides, and takes the command.
-use Rattle.std.proofs.Common.{◌≡◌, ℕ, ◌+◌, ◌%◌, ◌<◌, Bool, true, false, cond, ltb, List, [], ◌∷◌, ◌++◌, length, get_or, set, Ok, sym, ap, ◌∙◌, arith, lt-ltb, length-set}
-use Rattle.std.proofs.lemmas.List.{get_or_default}
+use Rattle.std.proofs.Common.{◌≡◌, ℕ, ◌+◌, ◌%◌, ◌<◌, Bool, true, false, cond, ltb, List, [], ◌∷◌, ◌++◌, length, get_or, set, Ok, Err, Result, sym, ap, ◌∙◌, subst, arith, lt-ltb, length-set}
+use Rattle.std.proofs.lemmas.List.{get_or_default, set-get_or}
 use Rattle.card.specs.declared.Command.{Command}
+use Rattle.card.specs.declared.CardFault.{CardFault}
+use Rattle.card.specs.declared.CardFault.TheVariants.{HeldAlready}
 use Rattle.card.specs.Commands.{among, Submitted}
-use Rattle.card.proofs.Bags.{more_length}
+use Rattle.card.proofs.Bags.{more_length, same_refl}
 use Rattle.bank.specs.Jobs.{Job, fresh, commands_in, commands_all}
-use Rattle.bank.specs.Rules.{put_in}
-use Rattle.bank.proofs.Bagged.{Sound, among_placed, bank_le, more_put, placed_put}
+use Rattle.bank.specs.Rules.{put_in, submit_rule}
+use Rattle.bank.proofs.Bagged.{Sound, among_placed, bank_le, more_put, placed_put, submit_held, submit_put}
 
-module _ (banks : List (List Job)) (count : ℕ) (c : Command) (b : ℕ) (d : List Job) (s : Sound banks count) (at : b ≡ c.ticket % 4) where
+-- what is promised of a submit that answers r and leaves the banks `after`
+pub record Submits (banks : List (List Job)) (c : Command) (r : Result (Unit {0}) CardFault) (after : List (List Job)) : Type 0 where
+  pub card : Submitted 32 (commands_all banks) c r (commands_all after)
+  pub answer : r ≡ (submit_rule banks c).0
+  pub left : after ≡ (submit_rule banks c).1
+
+module _ (banks : List (List Job)) (count : ℕ) (c : Command) (b : ℕ) (d : List Job) (s : Sound banks count) (room : count < 32) (at : b ≡ c.ticket % 4) where
   here : get_or banks (c.ticket % 4) [] ≡ get_or banks b d
   here = get_or_default banks (c.ticket % 4) [] d (omega (arith, s.four)) ∙ ap (λ i. get_or banks i d) (sym at)
 
-  pub decides : (r : Bool) → r ≡ among c.ticket (commands_in (get_or banks b d)) → among c.ticket (commands_all banks) ≡ r
+  decides : (r : Bool) → r ≡ among c.ticket (commands_in (get_or banks b d)) → among c.ticket (commands_all banks) ≡ r
   decides r is = among_placed c.ticket banks s.four s.placed ∙ ap (λ jobs. among c.ticket (commands_in jobs)) here ∙ sym is
 
-  pub puts : (r : Bool) (jobs : List Job) → count < 32 → r ≡ ltb (length (get_or banks b d)) 32 → jobs ≡ cond r (get_or banks b d ++ fresh c ∷ []) (get_or banks b d) → set banks b jobs ≡ put_in banks (c.ticket % 4) (fresh c)
-  puts r jobs room is held =
+  -- the bank of the ticket holds it
+  pub holds : true ≡ among c.ticket (commands_in (get_or banks b d)) → Submits banks c (Err HeldAlready) (set banks b (get_or banks b d))
+  holds is =
+      let held = decides true is in
+      let rule = submit_held banks c (omega (arith, s.counted)) held in
+      let kept : banks ≡ set banks b (get_or banks b d) = sym (set-get_or banks b d) in
+      subst (Submits banks c (Err HeldAlready)) kept
+      (record { card = (omega (arith, s.counted), held, same_refl (commands_all banks)); answer = sym (ap (λ p. p.0) rule); left = sym (ap (λ p. p.1) rule) })
+
+  -- it does not, and what was pushed there is `jobs`
+  pub takes : (r : Bool) (jobs : List Job) → false ≡ among c.ticket (commands_in (get_or banks b d)) → r ≡ ltb (length (get_or banks b d)) 32 → jobs ≡ cond r (get_or banks b d ++ fresh c ∷ []) (get_or banks b d) → Submits banks c (Ok tt) (set banks b jobs) × Sound (set banks b jobs) (count + 1)
+  takes r jobs is full held =
       let old = get_or banks b d in
+      let put = put_in banks (c.ticket % 4) (fresh c) in
+      let new = decides false is in
+      let rule = submit_put banks c (omega (arith, s.counted)) new in
+      let more = more_put banks (c.ticket % 4) c (omega (arith, s.four)) in
+      let count' = more_length c (commands_all banks) (commands_all put) more in
       let most = bank_le banks (c.ticket % 4) in
       let same = ap length here in
       let yes : ltb (length old) 32 ≡ true = lt-ltb (length old) 32 (omega (arith, s.counted)) in
-      let pushed : jobs ≡ get_or banks (c.ticket % 4) [] ++ fresh c ∷ [] = held ∙ ap (λ v. cond v (old ++ fresh c ∷ []) old) (is ∙ yes) ∙ ap (λ js. js ++ fresh c ∷ []) (sym here) in
-      ap (λ i. set banks i jobs) at ∙ ap (set banks (c.ticket % 4)) pushed
-
-  pub submitted_put : count < 32 → among c.ticket (commands_all banks) ≡ false → Submitted 32 (commands_all banks) c (Ok tt) (commands_all (put_in banks (c.ticket % 4) (fresh c)))
-  submitted_put room new = (omega (arith, s.counted), new, more_put banks (c.ticket % 4) c (omega (arith, s.four)))
-
-  pub sound_put : Sound (put_in banks (c.ticket % 4) (fresh c)) (count + 1)
-  sound_put =
-      let more = more_length c (commands_all banks) (commands_all (put_in banks (c.ticket % 4) (fresh c))) (more_put banks (c.ticket % 4) c (omega (arith, s.four))) in
-      record { four = simp length-set s.four; counted = omega (arith, s.counted, more); placed = placed_put banks c s.four s.placed }
+      let pushed : jobs ≡ get_or banks (c.ticket % 4) [] ++ fresh c ∷ [] = held ∙ ap (λ v. cond v (old ++ fresh c ∷ []) old) (full ∙ yes) ∙ ap (λ js. js ++ fresh c ∷ []) (sym here) in
+      let is_put : set banks b jobs ≡ put = ap (λ i. set banks i jobs) at ∙ ap (set banks (c.ticket % 4)) pushed in
+      subst (λ after. Submits banks c (Ok tt) after × Sound after (count + 1)) (sym is_put) (
+        record { card = (omega (arith, s.counted), new, more); answer = sym (ap (λ p. p.0) rule); left = sym (ap (λ p. p.1) rule) },
+        record { four = simp length-set s.four; counted = omega (arith, s.counted, count'); placed = placed_put banks c s.four s.placed },
+      )

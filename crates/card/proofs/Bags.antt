@@ -44,12 +44,6 @@ more_end c few many is = subst (λ cs. More c few cs) (sym is) (more_plus (plus_
 pub same_refl : (cs : List Command) → Same cs cs
 same_refl cs = IsPermutation-refl cs
 
-pub same_sym : (xs ys : List Command) → Same xs ys → Same ys xs
-same_sym xs ys h = IsPermutation-sym xs ys h
-
-pub same_trans : (xs ys zs : List Command) → Same xs ys → Same ys zs → Same xs zs
-same_trans xs ys zs h k = IsPermutation-trans xs ys zs h k
-
 -- one more of the same
 pub more_same : (c : Command) (few few' many many' : List Command) → Same few few' → More c few many → Same many many' → More c few' many'
 more_same c few few' many many' f m s =
@@ -68,9 +62,6 @@ same_sum g xs ys h = sum_by-IsPermutation g xs ys h
 
 pub more_sum : (g : Command → ℕ) (c : Command) (few many : List Command) → More c few many → sum_by g many ≡ g c + sum_by g few
 more_sum g c few many h = sum_by-IsPermutation g (c ∷ few) many h ∙ sum_by-cons g c few
-
-pub same_all : (P : Command → Type 0) (xs ys : List Command) → Same xs ys → AllByRecursion P xs → AllByRecursion P ys
-same_all P xs ys h all = all_shuffled P xs ys h all
 
 pub more_all : (P : Command → Type 0) (c : Command) (few many : List Command) → More c few many → P c → AllByRecursion P few → AllByRecursion P many
 more_all P c few many h p all = all_shuffled P (c ∷ few) many h (p, all)

@@ -36,7 +36,8 @@ pub trait Card {
     /// What `finish` may answer, and how it leaves the card: the card's own choice.
     ghost finishes: { Self → Option (ℕ × ℕ) → Self → Type 0 };
 
-    /// Takes a command, unless the card is full (asked first) or holds its ticket.
+    /// Takes a command, unless the card is full (asked first) or holds its ticket. Each card asks this of its own store, and
+    /// promises besides where the command goes, so that no body is given here.
     fn submit(&mut self, command: Command) -> Result<(), CardFault>
         ensures { Submitted DEPTH (held self.old) command result (held self.new) };
 

@@ -6,7 +6,7 @@ mod methods;
 use card::Command;
 use std::marker::Model;
 
-/// At most `N` commands, oldest first.
+/// At most `N` commands, oldest first. They lie in a circle, so that none is moved when the oldest goes.
 #[derive(Drop)]
 pub struct Ring<const N: usize> {
     places: [Command; N],

@@ -1,7 +1,6 @@
 // What a heap does to its memory: the first `len` of the items are held, or all of them where `len` is more.
 //
-// The memory and the count come apart, and not as a `Heap`, so that `FixedHeap` can lend its own: the check does not tell what a struct
-// around a lent array leaves there where the length of the array is a parameter.
+// The memory and the count come apart, since a `Heap` lends both whole: of what a call behind a field lends on in part, the check tells the length alone.
 ghost use Rattle.std.specs.Prelude.{◌≡◌, ◌-◌, ◌<◌, ◌∷◌, length, take, slice_index_or};
 ghost use Rattle.std.specs.List.Sorted.{IsPermutation};
 ghost use Rattle.heap.specs.Heaps.{Heaped, Pushed, Removed, Replaced};

@@ -1,10 +1,10 @@
 // A heap that owns its memory.
 ghost use Rattle.std.specs.Prelude.{◌≡◌, [], length};
 ghost use Rattle.heap.specs.Fixed.{Enters, Leads, Leaves, Swaps};
+ghost use Rattle.heap.specs.Heaps.{Pushed, Removed, Replaced};
 ghost use Rattle.heap.specs.Order.{upto_by};
 
-use crate::edits;
-use crate::heap::least;
+use crate::heap::{Heap, least};
 use std::marker::Model;
 
 // At most `N` records, heaped at all times. A contract sees those that are held, as they lie, the least first.
@@ -63,7 +63,7 @@ impl<T: Ord + Copy, const N: usize> FixedHeap<T, N> {
     pub fn push(&mut self, x: T) -> bool
         ensures { Enters N self.old x result self.new }
     {
-        edits::push(&mut self.slots, &mut self.count, x)
+        push_into(&mut self.slots, &mut self.count, x)
     }
 
     // Gives the least out, or `None` where none is held. It is the one that `peek` gives.
@@ -77,13 +77,34 @@ impl<T: Ord + Copy, const N: usize> FixedHeap<T, N> {
     pub fn remove(&mut self, at: usize) -> Option<T>
         ensures { Leaves (upto_by T.cmp) self.old at result self.new }
     {
-        edits::remove(&mut self.slots, &mut self.count, at)
+        remove_from(&mut self.slots, &mut self.count, at)
     }
 
     // Puts `x` in for the record in the place `at`, which is given out, or `None` where none is held there.
     pub fn replace(&mut self, at: usize, x: T) -> Option<T>
         ensures { Swaps self.old at x result self.new }
     {
-        edits::replace(&mut self.slots, self.count, at, x)
+        replace_in(&mut self.slots, &mut self.count, at, x)
     }
+}
+
+// The heap over memory that is lent to it. The memory and the count come apart: where the length of a lent array is a parameter, the check
+// does not tell what a struct around it leaves there.
+
+fn push_into<T: Ord + Copy>(items: &mut [T], len: &mut usize, x: T) -> bool
+    ensures { Pushed (upto_by T.cmp) items.old len.old x result items.new len.new }
+{
+    Heap::new(items, len).push(x)
+}
+
+fn remove_from<T: Ord + Copy>(items: &mut [T], len: &mut usize, at: usize) -> Option<T>
+    ensures { Removed (upto_by T.cmp) items.old len.old at result items.new len.new }
+{
+    Heap::new(items, len).remove(at)
+}
+
+fn replace_in<T: Ord + Copy>(items: &mut [T], len: &mut usize, at: usize, x: T) -> Option<T>
+    ensures { Replaced (upto_by T.cmp) items.old len.old at x result items.new len.new }
+{
+    Heap::new(items, len).replace(at, x)
 }

@@ -1,39 +1,9 @@
 -- Deeds, one after the other. Assumes nothing.
 use Rattle.std.proofs.Common.{◌≡◌, List, [], ◌∷◌, ◌++◌, map, Ok, Err, vec_items, Result, sym, refl, ap, ◌∙◌, append_assoc, append-nil}
-use Rattle.std.proofs.lemmas.List.{map-append, map_push}
-use Rattle.fly.specs.declared.call.Call.{Call}
-use Rattle.fly.specs.declared.call.Call.TheVariants.{Load, Arrive, Send, Kick, Reap, Time, Ready, Flow}
+use Rattle.std.proofs.lemmas.List.{map-append}
 use Rattle.script.specs.Scripts.{Deed, loads, asks, refuses, deed_of, step_of, made, after, Adds}
 use Rattle.script.specs.declared.fault.ScriptFault.{ScriptFault}
 use Rattle.script.specs.declared.script.Script.{Script}
-use Rattle.script.specs.declared.script.Step.{Step}
-use Rattle.script.specs.declared.script.Step.TheVariants.{Made}
-
-pub made_call : (c : Call) → made (deed_of c ∷ []) ≡ deed_of c ∷ []
-made_call (Load s) = refl
-made_call (Arrive f l n) = refl
-made_call (Send l) = refl
-made_call (Kick l) = refl
-made_call Reap = refl
-made_call Time = refl
-made_call Ready = refl
-made_call (Flow f) = refl
-
-pub call_step : (c : Call) → step_of (deed_of c) ≡ Made
-call_step (Load s) = refl
-call_step (Arrive f l n) = refl
-call_step (Send l) = refl
-call_step (Kick l) = refl
-call_step Reap = refl
-call_step Time = refl
-call_step Ready = refl
-call_step (Flow f) = refl
-
-pub calls_push : (calls calls' : List Call) (c : Call) → calls' ≡ calls ++ c ∷ [] → map deed_of calls' ≡ map deed_of calls ++ made (deed_of c ∷ [])
-calls_push calls calls' c e = ap (map deed_of) e ∙ map_push deed_of calls c ∙ ap (λ ds. map deed_of calls ++ ds) (sym (made_call c))
-
-pub steps_push : (steps steps' : List Step) (c : Call) → steps' ≡ steps ++ Made ∷ [] → steps' ≡ steps ++ map step_of (deed_of c ∷ [])
-steps_push steps steps' c e = e ∙ ap (λ (s : Step). steps ++ s ∷ []) (sym (call_step c))
 
 pub made-append : (xs ys : List Deed) → made (xs ++ ys) ≡ made xs ++ made ys
 made-append [] ys = refl

@@ -1,4 +1,5 @@
 pub mod Steps
+pub mod Spelling
 pub mod Texts
 pub mod Deeds
 pub mod Turns

@@ -1,16 +1,9 @@
 -- Lines of a text, one after the other. Assumes nothing.
-use Rattle.std.proofs.Common.{◌≡◌, ℕ, suc, ◌+◌, ◌-◌, ◌<◌, ◌≤◌, eqb, ltb, List, [], ◌++◌, length, take, drop, Some, None, Ok, Err, Option, Result, unwrap_or, sym, refl, ap, ◌∙◌, append-nil, arith, length-append, length-drop}
+use Rattle.std.proofs.Common.{◌≡◌, ℕ, suc, ◌+◌, ◌-◌, ◌<◌, ◌≤◌, eqb, ltb, List, [], ◌++◌, length, take, drop, Some, None, Ok, Err, Option, Result, unwrap_or, sym, refl, ap, ◌∙◌, append-nil, arith, length-append}
 use Rattle.std.proofs.lemmas.List.{take_at, take-append-drop}
-use Rattle.std.proofs.lemmas.Bool.{cond_both, cond-true, cond-false, ne_eqb, eq-eqb, ltb-true}
+use Rattle.std.proofs.lemmas.Bool.{cond_both}
 use Rattle.reader.specs.Lines.{before}
 use Rattle.script.specs.Scripts.{line_at, next_line, skipped}
-
-pub line_shorter : (bytes : List ℕ) → (length bytes ≡ 0 → ⊥) → length (line_at bytes).1 < length bytes
-line_shorter bytes h =
-    cond_both (ltb (before 10 bytes) (length bytes)) (Some (take (before 10 bytes) bytes, drop (before 10 bytes + 1) bytes)) None
-    (λ (o : Option (List ℕ × List ℕ)). length (unwrap_or o (bytes, [])).1 < length bytes)
-    (λ t. omega (arith, length-drop (before 10 bytes + 1) bytes, ltb-true _ _ t))
-    (λ _. omega arith)
 
 -- a line with its line feed is a front of the text
 pub line_front : (bytes : List ℕ) → (front : List ℕ) × (front ++ (line_at bytes).1 ≡ bytes)
@@ -19,12 +12,6 @@ line_front bytes =
     (λ (o : Option (List ℕ × List ℕ)). (front : List ℕ) × (front ++ (unwrap_or o (bytes, [])).1 ≡ bytes))
     (λ _. (take (before 10 bytes + 1) bytes, take-append-drop (before 10 bytes + 1) bytes))
     (λ _. (bytes, append-nil bytes))
-
-pub next_some : (bytes : List ℕ) → (length bytes ≡ 0 → ⊥) → next_line bytes ≡ Some (line_at bytes)
-next_some bytes h = cond-false (eqb (length bytes) 0) None (Some (line_at bytes)) (ne_eqb _ _ h)
-
-pub next_none : (bytes : List ℕ) → length bytes ≡ 0 → next_line bytes ≡ None
-next_none bytes h = cond-true (eqb (length bytes) 0) None (Some (line_at bytes)) (eq-eqb _ _ h)
 
 next_is : (bytes l rest : List ℕ) → next_line bytes ≡ Some (l, rest) → ◌≡◌ {A = List ℕ × List ℕ} (line_at bytes) (l, rest)
 next_is bytes l rest e =

@@ -2,6 +2,8 @@
 use Rattle.std.specs.Prelude.{ℕ, List, ◌++◌, codes, decimal}
 use Rattle.script.specs.declared.fault.Expected.{Expected}
 use Rattle.script.specs.declared.fault.Expected.TheVariants.{Card, AnyCall, Form, SheetLine}
+use Rattle.script.specs.declared.fault.NoScript.{NoScript}
+use Rattle.script.specs.declared.fault.NoScript.TheVariants.{Fault, Memory}
 use Rattle.script.specs.declared.fault.ScriptFault.{ScriptFault}
 use Rattle.script.specs.declared.fault.Word.{Word}
 use Rattle.script.specs.declared.fault.Word.TheVariants.{Sheet, Arrive, Send, Kick, Reap, Time, Ready, Flow}
@@ -26,3 +28,8 @@ expected_text SheetLine = codes "a line of the sheet"
 -- the line, and what was expected there
 abbrev pub fault_text : ScriptFault → List ℕ
 fault_text f = codes "line " ++ (decimal f.line ++ (codes ": expected " ++ expected_text f.expected))
+
+-- why there is no script
+abbrev pub no_script_text : NoScript → List ℕ
+no_script_text (Fault f) = fault_text f
+no_script_text Memory = codes "no memory for the script"

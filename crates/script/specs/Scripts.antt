@@ -1,5 +1,5 @@
 -- The lines of a script, one after the other.
-use Rattle.std.specs.Prelude.{◌≡◌, ℕ, zero, suc, ◌+◌, ◌<◌, Bool, true, false, cond, List, [], ◌∷◌, ◌++◌, map, length, Some, None, Ok, Err, vec_items, MatchBool, Option, Result, MatchResult, ◌==◌}
+use Rattle.std.specs.Prelude.{◌≡◌, ℕ, zero, suc, ◌+◌, ◌<◌, true, false, cond, List, [], ◌∷◌, ◌++◌, map, length, Some, None, Ok, Err, vec_items, Option, Result, MatchResult, ◌==◌}
 use Rattle.std.specs.Option.{unwrap_or}
 use Rattle.fly.specs.declared.call.Call.{Call}
 use Rattle.fly.specs.declared.call.Call.TheVariants.{Load, Arrive, Send, Kick, Reap, Time, Ready, Flow}
@@ -125,9 +125,13 @@ Fails P Memory = Unit {0}
 abbrev pub Goes : List ℕ → ℕ → List ℕ → ℕ → Script → Script → Type 0
 Goes bytes k bytes' k' s s' = (new : List Deed) × Adds s new s' × ((o : Result (List Deed) ScriptFault) → Says bytes' k' o → Says bytes k (after new o)) × (length bytes' < length bytes)
 
--- One turn: a line, or a sheet with its lines; or the text ends.
-abbrev pub Turn : List ℕ → ℕ → List ℕ → ℕ → Script → Script → Result Bool NoScript → Type 0
-Turn bytes k bytes' k' s s' r = MatchResult r (λ more. MatchBool more (Goes bytes k bytes' k' s s') ((next_line bytes ≡ None) × (s' ≡ s))) (Fails (λ f. Says bytes k (Err f)))
+-- One turn: a line, or a sheet with its lines.
+abbrev pub Turn : List ℕ → ℕ → List ℕ → ℕ → Script → Script → Result Unit NoScript → Type 0
+Turn bytes k bytes' k' s s' r = MatchResult r (λ _. Goes bytes k bytes' k' s s') (Fails (λ f. Says bytes k (Err f)))
+
+-- A line was taken from any text in front of the rest, and its turn came.
+abbrev pub LineAdded : ℕ → List ℕ → List ℕ → ℕ → List ℕ → ℕ → Script → Script → Result Unit NoScript → Type 0
+LineAdded k l rest next bytes' k' s s' r = (bytes : List ℕ) → next_line bytes ≡ Some (l, rest) → next ≡ k + 1 → length rest < length bytes → Turn bytes k bytes' k' s s' r
 
 -- how many line feeds there are
 abbrev pub feeds_in : List ℕ → ℕ

@@ -1,7 +1,7 @@
 // A place in the bytes of a script.
 ghost use Rattle.std.specs.Prelude.{◌+◌, ◌^◌, ◌≤◌, length};
 
-// What is left to read, and the number of its first line.
+// What is left to read, and the number of its first line. Unlike a sheet's, the last line may have no line feed.
 #[derive(Drop)]
 pub struct Cursor<'a> {
     pub(crate) rest: &'a [u8],

@@ -1,9 +1,10 @@
 // Why a text is no flight script, and at which line.
 ghost use Rattle.std.specs.Prelude.{◌≡◌, Some};
-ghost use Rattle.script.specs.Messages.{expected_text, fault_text, form_text};
+ghost use Rattle.script.specs.Messages.{expected_text, fault_text, form_text, no_script_text};
 ghost use Rattle.script.specs.declared.fault.NoScript.TheVariants.{Fault, Memory};
 
 use std::alloc::AllocError;
+use std::error::Error;
 use std::fmt;
 
 /// The words with which a line after the card's begins.
@@ -46,6 +47,7 @@ pub enum NoScript {
     Memory,
 }
 
+// Contracts name the variant that `?` makes, of which a derived `From` says nothing.
 impl From<ScriptFault> for NoScript {
     ghost from_gives = { λ fault r. r ≡ Fault fault };
 
@@ -95,12 +97,31 @@ impl Expected {
     }
 }
 
+impl fmt::Display for Expected {
+    ghost output = { λ expected. Some (expected_text expected) };
+
+    fn fmt<W: fmt::Write>(&self, f: &mut fmt::Formatter<W>) -> fmt::Result {
+        f.write_str(self.text())
+    }
+}
+
 impl fmt::Display for ScriptFault {
     ghost output = { λ fault. Some (fault_text fault) };
 
     fn fmt<W: fmt::Write>(&self, f: &mut fmt::Formatter<W>) -> fmt::Result {
-        let line = self.line;
-        let expected = self.expected.text();
-        write!(f, "line {line}: expected {expected}")
+        write!(f, "line {}: expected {}", self.line, self.expected)
     }
 }
+
+impl fmt::Display for NoScript {
+    ghost output = { λ none. Some (no_script_text none) };
+
+    fn fmt<W: fmt::Write>(&self, f: &mut fmt::Formatter<W>) -> fmt::Result {
+        match self {
+            NoScript::Fault(fault) => write!(f, "{fault}"),
+            NoScript::Memory => f.write_str("no memory for the script"),
+        }
+    }
+}
+
+impl Error for NoScript {}

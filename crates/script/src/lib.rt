@@ -2,7 +2,6 @@
 #![tactic(auto)]
 
 mod cursor;
-mod cut;
 pub mod fault;
 pub mod law;
 pub mod line;

@@ -1,14 +1,14 @@
 // What one line of a script says.
 ghost use Rattle.std.specs.Prelude.{◌≡◌};
-ghost use Rattle.std.specs.Option.{option_map};
-ghost use Rattle.std.specs.Str.{bytes_eq};
+ghost use Rattle.std.specs.Option.{ok_or, option_map};
 ghost use Rattle.script.specs.Lines.{arrival_of, bare_of, card_of, is_blank, line_of, numbered_of, parts_of};
 ghost use Rattle.script.specs.Words.{word_of};
+ghost use Rattle.script.specs.declared.fault.Expected.TheVariants.{AnyCall, Card};
 
-use crate::cut::cut;
 use crate::fault::{Expected, Word};
 use crate::number::number;
 use fly::call::Call;
+use reader::cut::cut;
 
 /// The kinds of card that a script can name.
 #[derive(Clone, Copy, Debug, PartialEq, Eq)]
@@ -31,53 +31,42 @@ pub enum Line {
 pub(crate) fn is_blank(line: &[u8]) -> bool
     ensures { result ≡ is_blank line.now }
 {
-    match line {
-        [] => true,
-        [first, ..] => *first == b'#',
-    }
-}
-
-// Whether two texts are the same.
-fn same(a: &[u8], b: &[u8]) -> bool
-    ensures { result ≡ bytes_eq a.now b.now }
-{
-    a == b
+    line.first().is_none_or(|b| *b == b'#')
 }
 
 // The card that a line names.
-pub(crate) fn card_of(line: &[u8]) -> Option<CardKind>
-    ensures { result ≡ card_of line.now }
-{
-    if same(line, b"card queue") {
-        Some(CardKind::Queue)
-    } else if same(line, b"card bank") {
-        Some(CardKind::Bank)
-    } else {
-        None
+impl TryFrom<&[u8]> for CardKind {
+    type Error = Expected;
+
+    ghost try_from_gives = { λ line r. r ≡ ok_or (card_of line.now) Card };
+
+    fn try_from(line: &[u8]) -> Result<CardKind, Expected> {
+        match line {
+            b"card queue" => Ok(CardKind::Queue),
+            b"card bank" => Ok(CardKind::Bank),
+            _ => Err(Expected::Card),
+        }
     }
 }
 
-fn word_of(name: &[u8]) -> Option<Word>
-    ensures { result ≡ word_of name.now }
-{
-    if same(name, b"sheet") {
-        Some(Word::Sheet)
-    } else if same(name, b"arrive") {
-        Some(Word::Arrive)
-    } else if same(name, b"send") {
-        Some(Word::Send)
-    } else if same(name, b"kick") {
-        Some(Word::Kick)
-    } else if same(name, b"reap") {
-        Some(Word::Reap)
-    } else if same(name, b"time") {
-        Some(Word::Time)
-    } else if same(name, b"ready") {
-        Some(Word::Ready)
-    } else if same(name, b"flow") {
-        Some(Word::Flow)
-    } else {
-        None
+// The word with which a line begins.
+impl TryFrom<&[u8]> for Word {
+    type Error = Expected;
+
+    ghost try_from_gives = { λ name r. r ≡ ok_or (word_of name.now) AnyCall };
+
+    fn try_from(name: &[u8]) -> Result<Word, Expected> {
+        match name {
+            b"sheet" => Ok(Word::Sheet),
+            b"arrive" => Ok(Word::Arrive),
+            b"send" => Ok(Word::Send),
+            b"kick" => Ok(Word::Kick),
+            b"reap" => Ok(Word::Reap),
+            b"time" => Ok(Word::Time),
+            b"ready" => Ok(Word::Ready),
+            b"flow" => Ok(Word::Flow),
+            _ => Err(Expected::AnyCall),
+        }
     }
 }
 
@@ -93,7 +82,7 @@ fn arrival(numbers: &[u8]) -> Option<Call>
     Some(Call::Arrive { flow, lane, length })
 }
 
-// A word alone.
+// What a word alone says.
 fn bare(word: Word) -> Option<Line>
     ensures { result ≡ bare_of word }
 {
@@ -105,7 +94,7 @@ fn bare(word: Word) -> Option<Line>
     }
 }
 
-// A word with numbers behind it.
+// What a word says with numbers behind it.
 fn numbered(word: Word, numbers: &[u8]) -> Option<Line>
     ensures { result ≡ numbered_of word numbers.now }
 {
@@ -123,10 +112,7 @@ fn numbered(word: Word, numbers: &[u8]) -> Option<Line>
 fn parts(line: &[u8]) -> (&[u8], Option<&[u8]>)
     ensures { (result.0.now, option_map (λ x. x.now) result.1) ≡ parts_of line.now }
 {
-    match cut(line, b' ') {
-        Some((name, numbers)) => (name, Some(numbers)),
-        None => (line, None),
-    }
+    cut(line, b' ').map_or((line, None), |(name, numbers)| (name, Some(numbers)))
 }
 
 /// What a line after the card's says, or what was expected in its place.
@@ -137,9 +123,7 @@ pub fn read_line(line: &[u8]) -> Result<Line, Expected>
         return Ok(Line::Blank);
     }
     let (name, numbers) = parts(line);
-    let Some(word) = word_of(name) else {
-        return Err(Expected::AnyCall);
-    };
+    let word = Word::try_from(name)?;
     let said = match numbers {
         Some(numbers) => numbered(word, numbers),
         None => bare(word),

@@ -2,22 +2,15 @@
 ghost use Rattle.std.specs.Prelude.{◌≡◌};
 ghost use Rattle.script.specs.Words.{number_of};
 
-// The value of some decimal digits, where it is below 2^32. The first digits may be 0.
+use std::str;
+
+// The value of some decimal digits, where it is below 2^32. Unlike a sheet's numbers they may be many, and begin with 0.
 pub(crate) fn number(digits: &[u8]) -> Option<u32>
     ensures { result ≡ number_of digits.now }
 {
-    if digits.is_empty() {
+    // `parse` takes a plus too.
+    if digits.first().is_some_and(|b| *b == b'+') {
         return None;
     }
-    let mut n: u64 = 0;
-    for b in digits {
-        if *b < b'0' || *b > b'9' {
-            return None;
-        }
-        n = n * 10 + u64::from(*b - b'0');
-        if n >= 4_294_967_296 {
-            return None;
-        }
-    }
-    Some(n as u32)
+    str::from_utf8(digits).ok()?.parse().ok()
 }

@@ -1,7 +1,7 @@
 // Reading a script.
 ghost use Rattle.std.specs.Prelude.{◌≡◌, ◌≤◌, [], ◌∷◌, length, OnOk};
 ghost use Rattle.reader.specs.Format.{read_sheet};
-ghost use Rattle.script.specs.Scripts.{Adds, Read, Turn, deed_of, feeds_in, sheet_deed};
+ghost use Rattle.script.specs.Scripts.{Adds, LineAdded, Read, deed_of, feeds_in, sheet_deed};
 ghost use Rattle.script.specs.Views.{rest_of};
 
 use crate::cursor::Cursor;
@@ -27,40 +27,26 @@ impl Script {
     {
         let mut sheet = Sheet::new();
         match reader::read(text, &mut sheet) {
-            Ok(()) => self.add_call(Call::Load(sheet)),
-            Err(fault) => {
-                self.steps.push(Step::Unread(fault))?;
-                Ok(())
-            }
+            Ok(()) => self.add_call(Call::Load(sheet))?,
+            Err(fault) => self.steps.push(Step::Unread(fault))?,
         }
+        Ok(())
     }
 
-    // Takes the next line, or a sheet with its lines; false where there is none.
-    fn add_next(&mut self, cursor: &mut Cursor) -> Result<bool, NoScript>
-        ensures { Turn (rest_of cursor.old) cursor.old.line (rest_of cursor.new) cursor.new.line self.old self.new result }
+    // Adds what a line says, which for a sheet is in the lines after it too.
+    fn add_line(&mut self, number: usize, line: &[u8], cursor: &mut Cursor) -> Result<(), NoScript>
+        ensures { LineAdded number line.now (rest_of cursor.old) cursor.old.line (rest_of cursor.new) cursor.new.line self.old self.new result }
     {
-        let number = cursor.line;
-        let Some(line) = cursor.take_line() else {
-            return Ok(false);
-        };
-        let said = match read_line(line) {
-            Ok(said) => said,
-            Err(expected) => {
-                return Err(NoScript::Fault(ScriptFault {
-                    line: number,
-                    expected,
-                }));
-            }
-        };
+        let said = read_line(line).map_err(|expected| ScriptFault {
+            line: number,
+            expected,
+        })?;
         match said {
             Line::Blank => {}
-            Line::Sheet(count) => {
-                let text = cursor.take_lines(count)?;
-                self.add_sheet(text)?;
-            }
+            Line::Sheet(count) => self.add_sheet(cursor.take_lines(count)?)?,
             Line::Call(call) => self.add_call(call)?,
         }
-        Ok(true)
+        Ok(())
     }
 }
 
@@ -69,13 +55,7 @@ fn feeds(text: &[u8]) -> usize
     ensures value { result ≡ feeds_in text.now }
     ensures bound { result ≤ length text.now }
 {
-    let mut n = 0;
-    for b in text {
-        if *b == b'\n' {
-            n += 1;
-        }
-    }
-    n
+    text.iter().filter(|b| **b == b'\n').count()
 }
 
 /// Reads a script. No call is made here, and none of a text that is at fault.
@@ -91,6 +71,8 @@ pub fn read_script(heap: Global, text: &[u8]) -> Result<Script, NoScript>
         calls: Vec::with_capacity(heap, most)?,
         steps: Vec::with_capacity(heap, most)?,
     };
-    while script.add_next(&mut cursor)? {}
+    while let Some((number, line)) = cursor.take_line() {
+        script.add_line(number, line, &mut cursor)?;
+    }
     Ok(script)
 }

@@ -12,7 +12,7 @@ pub enum Step {
     Unread(SheetFault),
 }
 
-/// The calls in their order; and the steps in theirs, each one a call or a sheet that is refused.
+/// The calls in their order; and the steps in theirs, each one a call or a sheet that is refused. The calls stand apart, since `fly` takes them as one list.
 #[derive(Drop)]
 pub struct Script {
     pub card: CardKind,

@@ -1,22 +1,19 @@
 // A cursor's walk through the lines of a script.
 ghost use Rattle.std.specs.Prelude.{◌≡◌, ◌+◌, ◌<◌, ◌++◌, length, IfOk, Some, None, Ok, Err, MatchOption, MatchResult, OnSome};
-ghost use Rattle.script.specs.Scripts.{CardSaid, line_at, next_line, skipped};
+ghost use Rattle.script.specs.Scripts.{CardSaid, fault, line_at, next_line, skipped};
 ghost use Rattle.script.specs.Views.{rest_of};
 ghost use Rattle.script.specs.declared.fault.Expected.TheVariants.{SheetLine};
 
 use crate::cursor::Cursor;
-use crate::cut::cut;
 use crate::fault::{Expected, ScriptFault};
-use crate::line::{CardKind, card_of, is_blank};
+use crate::line::{CardKind, is_blank};
+use reader::cut::cut;
 
 // The first line, without its line feed, and what follows.
 fn first_line(text: &[u8]) -> (&[u8], &[u8])
     ensures { (result.0.now, result.1.now) ≡ line_at text.now }
 {
-    match cut(text, b'\n') {
-        Some((line, rest)) => (line, rest),
-        None => (text, &text[text.len()..]),
-    }
+    cut(text, b'\n').unwrap_or((text, &[]))
 }
 
 impl<'a> Cursor<'a> {
@@ -29,36 +26,44 @@ impl<'a> Cursor<'a> {
         }
     }
 
-    // Takes a line, without its line feed, if there is one. The last line may have no line feed.
-    pub(crate) fn take_line(&mut self) -> Option<&'a [u8]>
-        ensures value { MatchOption result ((next_line (rest_of self.old) ≡ None) × (rest_of self.new ≡ rest_of self.old) × (self.new.line ≡ self.old.line)) (λ l. (next_line (rest_of self.old) ≡ Some (l.now, rest_of self.new)) × (self.new.line ≡ self.old.line + 1)) }
+    // That something else was expected at the next line.
+    fn fault(&self, expected: Expected) -> ScriptFault
+        ensures { result ≡ fault self.now.line expected }
+    {
+        ScriptFault {
+            line: self.line,
+            expected,
+        }
+    }
+
+    // Takes a line, without its line feed, and its number, if there is one. The last line may have no line feed.
+    pub(crate) fn take_line(&mut self) -> Option<(usize, &'a [u8])>
+        ensures value { MatchOption result ((next_line (rest_of self.old) ≡ None) × (rest_of self.new ≡ rest_of self.old) × (self.new.line ≡ self.old.line)) (λ l. (next_line (rest_of self.old) ≡ Some (l.1.now, rest_of self.new)) × (l.0 ≡ self.old.line) × (self.new.line ≡ self.old.line + 1)) }
         ensures less { OnSome result (length (rest_of self.new) < length (rest_of self.old)) }
     {
         if self.rest.is_empty() {
             return None;
         }
+        let number = self.line;
         let (line, rest) = first_line(self.rest);
         self.rest = rest;
         self.line += 1;
-        Some(line)
+        Some((number, line))
     }
 
     // Takes the lines up to the one that names the card.
     pub(crate) fn take_card(&mut self) -> Result<CardKind, ScriptFault>
         ensures { CardSaid (rest_of self.old) self.old.line result (rest_of self.new) self.new.line }
     {
-        loop {
-            let missing = ScriptFault {
-                line: self.line,
-                expected: Expected::Card,
-            };
-            let Some(line) = self.take_line() else {
-                return Err(missing);
-            };
+        while let Some((number, line)) = self.take_line() {
             if !is_blank(line) {
-                return card_of(line).ok_or(missing);
+                return CardKind::try_from(line).map_err(|expected| ScriptFault {
+                    line: number,
+                    expected,
+                });
             }
         }
+        Err(self.fault(Expected::Card))
     }
 
     // Takes so many lines, with their line feeds.
@@ -68,14 +73,9 @@ impl<'a> Cursor<'a> {
     {
         let from = self.rest;
         for _i in 0..count {
-            let missing = ScriptFault {
-                line: self.line,
-                expected: Expected::SheetLine,
-            };
-            let Some(_) = self.take_line() else {
-                return Err(missing);
-            };
+            let missing = self.fault(Expected::SheetLine);
+            self.take_line().ok_or(missing)?;
         }
-        Ok(&from[0..from.len() - self.rest.len()])
+        Ok(&from[..from.len() - self.rest.len()])
     }
 }

@@ -6,8 +6,8 @@ use Rattle.script.specs.declared.line.CardKind.{CardKind}
 use Rattle.script.proofs.cursor.Cursor.take_card.Given as goal
 
 -- whatever the text from here on says, the whole says it too
-abbrev pub invariant-loop-line : goal.invariant-loop-line
-invariant-loop-line l = (o : Result (CardKind × List Deed) ScriptFault) → Begins (rest_of l.self) l.self.line o → Begins (rest_of l.initial.self) l.initial.self.line o
+abbrev pub invariant-loop-number : goal.invariant-loop-number
+invariant-loop-number l = (o : Result (CardKind × List Deed) ScriptFault) → Begins (rest_of l.self) l.self.line o → Begins (rest_of l.initial.self) l.initial.self.line o
 
-abbrev pub decreases-loop-line : goal.decreases-loop-line
-decreases-loop-line l = length (rest_of l.self)
+abbrev pub decreases-loop-number : goal.decreases-loop-number
+decreases-loop-number l = length (rest_of l.self)

@@ -8,7 +8,6 @@ use fly::call::Answer;
 use fly::flight::{Grounded, fly};
 use queue::QueueCard;
 use report::report::Report;
-use script::fault::NoScript;
 use script::line::CardKind;
 use script::reading::read_script;
 use script::script::{Script, Step};
@@ -19,19 +18,18 @@ use std::process::ExitCode;
 // Prints the line of each step.
 fn print_report<'a>(rt: &HostRuntime, steps: &'a [Step], answers: &'a [Answer]) -> io::Result<()> {
     let mut report = Report::new(steps, answers);
-    let mut piece = Vec::new(rt.alloc());
+    let mut piece = String::new(rt.alloc());
     while report.fill(&mut piece)? {
-        rt.stdout().write_all(&piece)?;
+        rt.stdout().write_all(piece.as_bytes())?;
     }
-    rt.stdout().write_all(&piece)
+    rt.stdout().write_all(piece.as_bytes())
 }
 
 // Makes the calls of a script on a new board around the card, and prints the answers.
 fn rehearse<C: Card + Drop>(rt: &HostRuntime, card: C, script: &Script) -> anyhow::Result<()> {
-    let flight = match fly(rt.alloc(), card, &script.calls) {
-        Ok(flight) => flight,
-        Err(Grounded { card: _card }) => return Err(anyhow!("no memory for the answers")),
-    };
+    let flight = fly(rt.alloc(), card, &script.calls).map_err(|Grounded { card: _card }| anyhow!(
+        "no memory for the answers"
+    ))?;
     print_report(rt, &script.steps, &flight.answers)?;
     Ok(())
 }
@@ -40,11 +38,8 @@ fn rehearse<C: Card + Drop>(rt: &HostRuntime, card: C, script: &Script) -> anyho
 fn run(rt: &HostRuntime) -> anyhow::Result<()> {
     let mut text = Vec::new(rt.alloc());
     rt.stdin().read_to_end(&mut text)?;
-    let script = match read_script(rt.alloc(), &text) {
-        Ok(script) => script,
-        Err(NoScript::Fault(fault)) => return Err(anyhow!(format!(in rt.alloc(); "{fault}")?)),
-        Err(NoScript::Memory) => return Err(anyhow!("no memory for the script")),
-    };
+    let script = read_script(rt.alloc(), &text)?;
+    // Each kind of card is a type of its own.
     match script.card {
         CardKind::Queue => rehearse(rt, QueueCard::new(), &script),
         CardKind::Bank => rehearse(rt, BankCard::new(), &script),

@@ -1,5 +1,5 @@
 -- The lines of answers.
-use Rattle.std.specs.Prelude.{ℕ, List, [], ◌∷◌, ◌++◌, Ok, Err, codes, decimal}
+use Rattle.std.specs.Prelude.{ℕ, List, [], ◌∷◌, ◌++◌, Ok, Err, codes, decimal, Result}
 use Rattle.board.specs.declared.answer.Reaping.{Reaping}
 use Rattle.board.specs.declared.answer.Reaping.TheVariants.{Finished, NotYet, Idle}
 use Rattle.board.specs.declared.answer.Sending.{Sending}
@@ -74,6 +74,11 @@ answer_line (OfFlow (Err e)) = refused_line e
 -- the line of a sheet that is refused
 abbrev pub unread_line : SheetFault → List ℕ
 unread_line f = sentence (codes "refused") (refusal_number f.refusal ∷ f.line ∷ [])
+
+-- the line of a step: of the answer of its call, or of its sheet
+abbrev pub step_line : Result Answer SheetFault → List ℕ
+step_line (Ok a) = answer_line a
+step_line (Err f) = unread_line f
 
 -- One line for each step, in order: the next answer's, or that of a refused sheet.
 abbrev pub report : List Step → List Answer → List ℕ

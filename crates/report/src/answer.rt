@@ -1,129 +1,132 @@
 // The lines of answers.
-ghost use Rattle.std.specs.Prelude.{◌≡◌, ◌++◌, OnOk};
-ghost use Rattle.report.specs.Answers.{answer_line, card_line, flow_line, reaping_line, refused_line, sending_line, unread_line};
+ghost use Rattle.std.specs.Prelude.{Some};
+ghost use Rattle.report.specs.Answers.{answer_line, card_line, flow_line, reaping_line, refused_line, sending_line, step_line, unread_line};
 
-use crate::number::put_line;
 use board::answer::{Reaping, Sending};
 use books::flows::FlowState;
 use books::refusal::Refusal;
 use card::CardFault;
 use fly::call::Answer;
 use reader::fault::SheetFault;
-use std::alloc::AllocError;
+use std::fmt;
 
-fn put_card_fault(out: &mut Vec<u8>, fault: CardFault) -> Result<(), AllocError>
-    ensures { OnOk result (out.new.items ≡ out.old.items ++ card_line fault) }
-{
-    match fault {
-        CardFault::Full => put_line(out, b"refused 13 full", &[]),
-        CardFault::HeldAlready => put_line(out, b"refused 13 held already", &[]),
+/// Shown as the line that tells of a value, with its line feed.
+#[derive(Clone, Copy)]
+pub struct Line<T>(pub T);
+
+impl fmt::Display for Line<CardFault> {
+    ghost output = { λ line. Some (card_line line.0) };
+
+    fn fmt<W: fmt::Write>(&self, f: &mut fmt::Formatter<W>) -> fmt::Result {
+        f.write_str(match self.0 {
+            CardFault::Full => "refused 13 full\n",
+            CardFault::HeldAlready => "refused 13 held already\n",
+        })
     }
 }
 
-fn put_refused(out: &mut Vec<u8>, refusal: Refusal) -> Result<(), AllocError>
-    ensures { OnOk result (out.new.items ≡ out.old.items ++ refused_line refusal) }
-{
-    match refusal {
-        Refusal::Busy => put_line(out, b"refused", &[6]),
-        Refusal::TooDeep => put_line(out, b"refused", &[7]),
-        Refusal::NoFlow => put_line(out, b"refused", &[8]),
-        Refusal::NoLane => put_line(out, b"refused", &[9]),
-        Refusal::BadLength => put_line(out, b"refused", &[10]),
-        Refusal::LaneFull => put_line(out, b"refused", &[11]),
-        Refusal::NoTicket => put_line(out, b"refused", &[12]),
-        Refusal::ByCard(fault) => put_card_fault(out, fault),
-        Refusal::Stray(ticket) => put_line(out, b"refused", &[14, u64::from(ticket)]),
+impl fmt::Display for Line<Refusal> {
+    ghost output = { λ line. Some (refused_line line.0) };
+
+    fn fmt<W: fmt::Write>(&self, f: &mut fmt::Formatter<W>) -> fmt::Result {
+        match self.0 {
+            Refusal::ByCard(fault) => write!(f, "{}", Line(fault)),
+            Refusal::Stray(ticket) => writeln!(f, "refused {} {ticket}", self.0.number()),
+            _ => writeln!(f, "refused {}", self.0.number()),
+        }
     }
 }
 
-fn put_sending(out: &mut Vec<u8>, sending: Sending) -> Result<(), AllocError>
-    ensures { OnOk result (out.new.items ≡ out.old.items ++ sending_line sending) }
-{
-    match sending {
-        Sending::Empty => put_line(out, b"empty", &[]),
-        Sending::Throttled(excess) => put_line(out, b"throttled", &[excess]),
-        Sending::NoSlot => put_line(out, b"no slot", &[]),
-        Sending::Sent {
-            ticket,
-            flow,
-            charge,
-        } => put_line(
-            out,
-            b"sent",
-            &[u64::from(ticket), u64::from(flow), u64::from(charge)],
-        ),
+impl fmt::Display for Line<Sending> {
+    ghost output = { λ line. Some (sending_line line.0) };
+
+    fn fmt<W: fmt::Write>(&self, f: &mut fmt::Formatter<W>) -> fmt::Result {
+        match self.0 {
+            Sending::Empty => f.write_str("empty\n"),
+            Sending::Throttled(excess) => writeln!(f, "throttled {excess}"),
+            Sending::NoSlot => f.write_str("no slot\n"),
+            Sending::Sent {
+                ticket,
+                flow,
+                charge,
+            } => writeln!(f, "sent {ticket} {flow} {charge}"),
+        }
     }
 }
 
-fn put_reaping(out: &mut Vec<u8>, reaping: Reaping) -> Result<(), AllocError>
-    ensures { OnOk result (out.new.items ≡ out.old.items ++ reaping_line reaping) }
-{
-    match reaping {
-        Reaping::Finished {
-            ticket,
-            flow,
-            charge,
-            status,
-        } => put_line(
-            out,
-            b"finished",
-            &[
-                u64::from(ticket),
-                u64::from(flow),
-                u64::from(charge),
-                u64::from(status),
-            ],
-        ),
-        Reaping::NotYet => put_line(out, b"not yet", &[]),
-        Reaping::Idle => put_line(out, b"idle", &[]),
+impl fmt::Display for Line<Reaping> {
+    ghost output = { λ line. Some (reaping_line line.0) };
+
+    fn fmt<W: fmt::Write>(&self, f: &mut fmt::Formatter<W>) -> fmt::Result {
+        match self.0 {
+            Reaping::Finished {
+                ticket,
+                flow,
+                charge,
+                status,
+            } => writeln!(f, "finished {ticket} {flow} {charge} {status}"),
+            Reaping::NotYet => f.write_str("not yet\n"),
+            Reaping::Idle => f.write_str("idle\n"),
+        }
     }
 }
 
-fn put_flow(out: &mut Vec<u8>, state: FlowState) -> Result<(), AllocError>
-    ensures { OnOk result (out.new.items ≡ out.old.items ++ flow_line state) }
-{
-    let numbers = [
-        u64::from(state.weight),
-        u64::from(state.longest),
-        state.end,
-        u64::from(state.waiting),
-        u64::from(state.in_card),
-    ];
-    put_line(out, b"flow", &numbers)
-}
+impl fmt::Display for Line<FlowState> {
+    ghost output = { λ line. Some (flow_line line.0) };
 
-/// Appends the line of an answer.
-pub fn put_answer(out: &mut Vec<u8>, answer: Answer) -> Result<(), AllocError>
-    ensures { OnOk result (out.new.items ≡ out.old.items ++ answer_line answer) }
-{
-    match answer {
-        Answer::Loaded(Ok(())) => put_line(out, b"loaded", &[]),
-        Answer::Arrived(Ok((ticket, (start, end)))) => put_line(
-            out,
-            b"arrived",
-            &[u64::from(ticket), start, end],
-        ),
-        Answer::Moved(Ok(sending)) => put_sending(out, sending),
-        Answer::Reaped(Ok(reaping)) => put_reaping(out, reaping),
-        Answer::VirtualTime(time) => put_line(out, b"time", &[time]),
-        Answer::ReadyLanes(mask, count) => put_line(
-            out,
-            b"ready",
-            &[u64::from(mask), u64::from(count)],
-        ),
-        Answer::OfFlow(Ok(state)) => put_flow(out, state),
-        Answer::Loaded(Err(refusal)) => put_refused(out, refusal),
-        Answer::Arrived(Err(refusal)) => put_refused(out, refusal),
-        Answer::Moved(Err(refusal)) => put_refused(out, refusal),
-        Answer::Reaped(Err(refusal)) => put_refused(out, refusal),
-        Answer::OfFlow(Err(refusal)) => put_refused(out, refusal),
+    fn fmt<W: fmt::Write>(&self, f: &mut fmt::Formatter<W>) -> fmt::Result {
+        let FlowState {
+            weight,
+            longest,
+            end,
+            waiting,
+            in_card,
+        } = self.0;
+        writeln!(f, "flow {weight} {longest} {end} {waiting} {in_card}")
     }
 }
 
-/// Appends the line of a sheet that was refused.
-pub fn put_unread(out: &mut Vec<u8>, fault: SheetFault) -> Result<(), AllocError>
-    ensures { OnOk result (out.new.items ≡ out.old.items ++ unread_line fault) }
-{
-    let number = fault.refusal.number();
-    put_line(out, b"refused", &[u64::from(number), u64::from(fault.line)])
+impl fmt::Display for Line<Answer> {
+    ghost output = { λ line. Some (answer_line line.0) };
+
+    fn fmt<W: fmt::Write>(&self, f: &mut fmt::Formatter<W>) -> fmt::Result {
+        match self.0 {
+            Answer::Loaded(Ok(())) => f.write_str("loaded\n"),
+            Answer::Arrived(Ok((ticket, (start, end)))) => writeln!(
+                f,
+                "arrived {ticket} {start} {end}"
+            ),
+            Answer::Moved(Ok(sending)) => write!(f, "{}", Line(sending)),
+            Answer::Reaped(Ok(reaping)) => write!(f, "{}", Line(reaping)),
+            Answer::VirtualTime(time) => writeln!(f, "time {time}"),
+            Answer::ReadyLanes(mask, count) => writeln!(f, "ready {mask} {count}"),
+            Answer::OfFlow(Ok(state)) => write!(f, "{}", Line(state)),
+            Answer::Loaded(Err(refusal))
+            | Answer::Arrived(Err(refusal))
+            | Answer::Moved(Err(refusal))
+            | Answer::Reaped(Err(refusal))
+            | Answer::OfFlow(Err(refusal)) => write!(f, "{}", Line(refusal)),
+        }
+    }
+}
+
+impl fmt::Display for Line<SheetFault> {
+    ghost output = { λ line. Some (unread_line line.0) };
+
+    fn fmt<W: fmt::Write>(&self, f: &mut fmt::Formatter<W>) -> fmt::Result {
+        let SheetFault { line, refusal } = self.0;
+        writeln!(f, "refused {} {line}", refusal.number())
+    }
+}
+
+// Of a step: the answer of its call, or the fault of its sheet.
+impl fmt::Display for Line<Result<Answer, SheetFault>> {
+    ghost output = { λ line. Some (step_line line.0) };
+
+    fn fmt<W: fmt::Write>(&self, f: &mut fmt::Formatter<W>) -> fmt::Result {
+        match self.0 {
+            Ok(answer) => write!(f, "{}", Line(answer)),
+            Err(fault) => write!(f, "{}", Line(fault)),
+        }
+    }
 }

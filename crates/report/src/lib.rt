@@ -2,7 +2,6 @@
 #![tactic(auto)]
 
 pub mod answer;
-mod number;
 pub mod pieces;
 pub mod report;
 #[cfg(test)]

@@ -1,13 +1,15 @@
 // A report is printed piece by piece, so that little memory is taken for it.
-ghost use Rattle.std.specs.Prelude.{◌≡◌, IfOk};
+ghost use Rattle.std.specs.Prelude.{◌≡◌, IfOk, string_bytes};
 ghost use Rattle.report.specs.Answers.{report};
 ghost use Rattle.report.specs.Pieces.{Filled, Told, text_of};
 
-use crate::answer::{put_answer, put_unread};
+use crate::answer::Line;
 use crate::report::Report;
 use fly::call::Answer;
+use reader::fault::SheetFault;
 use script::script::Step;
 use std::alloc::AllocError;
+use std::fmt::Write;
 
 // A piece ends with the line that fills so many bytes.
 const PIECE: usize = 65_536;
@@ -17,43 +19,37 @@ impl<'a> Report<'a> {
     pub fn new(steps: &'a [Step], answers: &'a [Answer]) -> Report<'a>
         ensures { text_of result ≡ report steps.now answers.now }
     {
-        Report { steps, answers }
-    }
-
-    // Appends the next line; false where there is none.
-    fn put_next(&mut self, out: &mut Vec<u8>) -> Result<bool, AllocError>
-        ensures { IfOk result (λ more. Told more self.old self.new out.old.items out.new.items) }
-    {
-        let Some((step, steps)) = self.steps.split_first() else {
-            return Ok(false);
-        };
-        self.steps = steps;
-        match step {
-            Step::Unread(fault) => {
-                put_unread(out, *fault)?;
-                Ok(true)
-            }
-            Step::Made => {
-                let Some((answer, answers)) = self.answers.split_first() else {
-                    return Ok(false);
-                };
-                self.answers = answers;
-                put_answer(out, *answer)?;
-                Ok(true)
-            }
+        Report {
+            steps: steps.iter(),
+            answers: answers.iter(),
         }
     }
 
     /// Puts the next lines into `out`, in place of what it holds. True where there may be more.
-    pub fn fill(&mut self, out: &mut Vec<u8>) -> Result<bool, AllocError>
-        ensures { IfOk result (λ more. Filled more self.old self.new out.new.items) }
+    pub fn fill(&mut self, out: &mut String) -> Result<bool, AllocError>
+        ensures { IfOk result (λ more. Filled more self.old self.new (string_bytes out.new)) }
     {
         out.clear();
         while out.len() < PIECE {
-            if !self.put_next(out)? {
+            let Some(line) = self.next() else {
                 return Ok(false);
-            }
+            };
+            write!(out, "{line}")?;
         }
         Ok(true)
+    }
+}
+
+/// Gives a line for each step, for as long as there are answers.
+impl<'a> Iterator for Report<'a> {
+    type Item = Line<Result<Answer, SheetFault>>;
+
+    ghost next_gives = { Told };
+
+    fn next(&mut self) -> Option<Line<Result<Answer, SheetFault>>> {
+        match self.steps.next()? {
+            Step::Made => self.answers.next().map(|answer| Line(Ok(*answer))),
+            Step::Unread(fault) => Some(Line(Err(*fault))),
+        }
     }
 }

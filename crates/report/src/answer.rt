@@ -114,8 +114,7 @@ impl fmt::Display for Line<SheetFault> {
     ghost output = { λ line. Some (unread_line line.0) };
 
     fn fmt<W: fmt::Write>(&self, f: &mut fmt::Formatter<W>) -> fmt::Result {
-        let SheetFault { line, refusal } = self.0;
-        writeln!(f, "refused {} {line}", refusal.number())
+        writeln!(f, "{}", self.0)
     }
 }
 

@@ -1,7 +1,7 @@
 -- The words and the numbers of a script's lines.
-use Rattle.std.specs.Prelude.{ℕ, ◌+◌, ◌-◌, ◌*◌, ◌^◌, cond, ◌&&◌, List, [], ◌∷◌, length, Some, None, codes, Option, ◌==◌, nat_lt}
+use Rattle.std.specs.Prelude.{ℕ, ◌^◌, cond, List, length, Some, None, codes, Option, ◌==◌}
 use Rattle.std.specs.Str.{bytes_eq}
-use Rattle.reader.specs.Lines.{is_digit}
+use Rattle.reader.specs.Lines.{value_below}
 use Rattle.script.specs.declared.fault.Word.{Word}
 use Rattle.script.specs.declared.fault.Word.TheVariants.{Sheet, Arrive, Send, Kick, Reap, Time, Ready, Flow}
 
@@ -18,8 +18,7 @@ word_of name =
 
 -- the value of the decimal digits, after those that make n, as long as it stays below 2^32
 abbrev pub digits_from : ℕ → List ℕ → Option ℕ
-digits_from n [] = Some n
-digits_from n (b ∷ bs) = cond (is_digit b && nat_lt (n * 10 + (b - 48)) (2 ^ 32)) (digits_from (n * 10 + (b - 48)) bs) None
+digits_from n ds = value_below (2 ^ 32) n ds
 
 -- a number has at least one digit
 abbrev pub number_of : List ℕ → Option ℕ

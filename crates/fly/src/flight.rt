@@ -19,7 +19,7 @@ pub struct Grounded<C> {
     pub card: C,
 }
 
-// Makes one call.
+// Makes one call. A list of calls is a value that a script is read into and a promise speaks of, so its entries are data and no closures.
 fn perform<C: Card>(board: &mut Board<C>, call: Call) -> Answer
     ensures { Did C.Card board.old call result board.new }
 {
@@ -42,9 +42,8 @@ fn perform<C: Card>(board: &mut Board<C>, call: Call) -> Answer
 pub fn fly<C: Card>(heap: Global, card: C, calls: &[Call]) -> Result<Flight<C>, Grounded<C>>
     ensures { MatchResult result (λ f. Promise C.Card card calls.now f.answers.items f.board.card) (λ g. g.card ≡ card) }
 {
-    let mut answers = match Vec::with_capacity(heap, calls.len()) {
-        Ok(answers) => answers,
-        Err(_) => return Err(Grounded { card }),
+    let Ok(mut answers) = Vec::with_capacity(heap, calls.len()) else {
+        return Err(Grounded { card });
     };
     let mut board = Board::new(card);
     for call in calls {

@@ -104,15 +104,15 @@ pub hands : (depth : ℕ) (before after : List Command) (s s' : State) (k : ℕ)
 hands depth before after s s' k r rest sub lane is =
     subst (λ v. Done (Ok (Sent r.ticket r.flow r.charge)) s' before after (handed s k r rest v))
     (sym (cond-false (leb depth (length before)) _ _ (lt-leb depth (length before) sub.0) ∙ cond-false (among r.ticket before) _ _ sub.1))
-    (record { says = refl; books = is ∙ ap (moved_from s k) lane; card = sub.2 })
+    (record { says = refl; numbered = refl; books = is ∙ ap (moved_from s k) lane; card = sub.2 })
 
 pub refuses : (depth : ℕ) (before after : List Command) (s : State) (k : ℕ) (r : Request) (rest : List Request) (fault : CardFault) → Submitted depth before (command r.ticket r.sectors) (Err fault) after → Done (Err (ByCard fault)) s before after (handed s k r rest (submits depth before r.ticket))
 refuses depth before after s k r rest Full sub =
-    subst (λ v. Done (Err (ByCard Full)) s before after (handed s k r rest v)) (sym (cond-true (leb depth (length before)) _ _ (le-leb depth (length before) sub.0))) (record { says = refl; books = refl; card = sub.1 })
+    subst (λ v. Done (Err (ByCard Full)) s before after (handed s k r rest v)) (sym (cond-true (leb depth (length before)) _ _ (le-leb depth (length before) sub.0))) (record { says = refl; numbered = refl; books = refl; card = sub.1 })
 refuses depth before after s k r rest HeldAlready sub =
     subst (λ v. Done (Err (ByCard HeldAlready)) s before after (handed s k r rest v))
     (sym (cond-false (leb depth (length before)) _ _ (lt-leb depth (length before) sub.0) ∙ cond-true (among r.ticket before) _ _ sub.1))
-    (record { says = refl; books = refl; card = sub.2 })
+    (record { says = refl; numbered = refl; books = refl; card = sub.2 })
 
 -- what is said of an option's value, where it has one
 pub given : {A : Type 0} {o : Option A} (P : Type 0) (Q : A → Type 0) (x : A) → o ≡ Some x → Q x → MatchOption o P Q

@@ -10,7 +10,7 @@ use Rattle.sheet.specs.Sheets.{Content}
 use Rattle.lanes.specs.declared.records.Request.{Request}
 use Rattle.books.specs.declared.refusal.Refusal.{Refusal}
 use Rattle.books.specs.declared.refusal.Refusal.TheVariants.{Busy, TooDeep, NoLane, ByCard, Stray}
-use Rattle.board.specs.Answers.{outcome_of, reaping_of}
+use Rattle.board.specs.Answers.{outcome_of, reaping_of, sending_of}
 use Rattle.board.specs.declared.answer.Reaping.{Reaping}
 use Rattle.board.specs.declared.answer.Reaping.TheVariants.{Finished, NotYet, Idle}
 use Rattle.board.specs.declared.answer.Sending.{Sending}
@@ -84,9 +84,15 @@ abbrev pub Holds : Option Command → List Command → List Command → Type 0
 Holds None before after = Same before after
 Holds (Some c) before after = More c before after
 
--- the call did what the rule says
+-- a call's answer and the books afterwards are what its rule says, and so are the answer's number and its values
+pub record Answers {A : Type 0} (view : A → ℕ × List ℕ) (r : Result A Refusal) (s' : State) (v : Result A Refusal × State) : Type 0 where
+  pub rule : Meets r s' v
+  pub numbered : outcome_of view r ≡ outcome_of view v.0
+
+-- a send or a kick did what its rule says
 pub record Done (r : Result Sending Refusal) (s' : State) (before after : List Command) (o : Outcome) : Type 0 where
   pub says : r ≡ o.says
+  pub numbered : outcome_of sending_of r ≡ outcome_of sending_of o.says
   pub books : s' ≡ o.books
   pub card : Holds o.hands before after
 

@@ -1,4 +1,4 @@
-// A board: the books, the slots, and the card.
+// A board: the books, the slots, and the card. No model stands for it, since the laws of runs read the card's own meaning, and of the books what is true of all.
 ghost use Rattle.std.specs.Prelude.{◌≡◌, length};
 ghost use Rattle.books.specs.Views.{state_of};
 

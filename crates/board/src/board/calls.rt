@@ -1,10 +1,10 @@
 // Making, loading, arriving and reaping.
 ghost use Rattle.std.specs.Prelude.{◌≡◌};
 ghost use Rattle.sheet.specs.Sheets.{blank, content_of};
-ghost use Rattle.books.specs.Model.{Meets, arrive_rule, empty};
+ghost use Rattle.books.specs.Model.{arrive_rule, empty};
 ghost use Rattle.books.specs.Views.{state_of};
-ghost use Rattle.board.specs.Answers.{arrival_of, loading_of, outcome_of};
-ghost use Rattle.board.specs.Rules.{Reaps, load_rule};
+ghost use Rattle.board.specs.Answers.{arrival_of, loading_of};
+ghost use Rattle.board.specs.Rules.{Answers, Reaps, load_rule};
 
 use crate::answer::Reaping;
 use crate::board::Board;
@@ -27,8 +27,7 @@ impl<C: Card> Board<C> {
     }
 
     pub fn load(&mut self, sheet: Sheet) -> Result<(), Refusal>
-        ensures rule { Meets result (state_of self.new.books) (load_rule C.DEPTH (C.held self.old.card) (state_of self.old.books) (content_of sheet)) }
-        ensures numbered { outcome_of loading_of result ≡ outcome_of loading_of (load_rule C.DEPTH (C.held self.old.card) (state_of self.old.books) (content_of sheet)).0 }
+        ensures rule { Answers loading_of result (state_of self.new.books) (load_rule C.DEPTH (C.held self.old.card) (state_of self.old.books) (content_of sheet)) }
         ensures card { self.new.card ≡ self.old.card }
     {
         if self.books.waits() || self.books.in_card() > 0 || self.card.count() > 0 {
@@ -49,8 +48,7 @@ impl<C: Card> Board<C> {
         lane: u32,
         length: u32,
     ) -> Result<(u32, (u64, u64)), Refusal>
-        ensures rule { Meets result (state_of self.new.books) (arrive_rule (state_of self.old.books) flow lane length) }
-        ensures numbered { outcome_of arrival_of result ≡ outcome_of arrival_of (arrive_rule (state_of self.old.books) flow lane length).0 }
+        ensures rule { Answers arrival_of result (state_of self.new.books) (arrive_rule (state_of self.old.books) flow lane length) }
         ensures card { self.new.card ≡ self.old.card }
     {
         self.books.arrive(flow, lane, length)

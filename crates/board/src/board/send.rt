@@ -1,7 +1,5 @@
 // Sending from a lane.
 ghost use Rattle.books.specs.Views.{state_of};
-ghost use Rattle.std.specs.Prelude.{◌≡◌};
-ghost use Rattle.board.specs.Answers.{outcome_of, sending_of};
 ghost use Rattle.board.specs.Rules.{Done, send_rule};
 
 use crate::answer::Sending;
@@ -11,8 +9,7 @@ use card::Card;
 
 impl<C: Card> Board<C> {
     pub fn send(&mut self, lane: u32) -> Result<Sending, Refusal>
-        ensures rule { Done result (state_of self.new.books) (C.held self.old.card) (C.held self.new.card) (send_rule C.DEPTH (C.held self.old.card) (state_of self.old.books) lane) }
-        ensures numbered { outcome_of sending_of result ≡ outcome_of sending_of (send_rule C.DEPTH (C.held self.old.card) (state_of self.old.books) lane).says }
+        ensures { Done result (state_of self.new.books) (C.held self.old.card) (C.held self.new.card) (send_rule C.DEPTH (C.held self.old.card) (state_of self.old.books) lane) }
     {
         let Some(lead) = self.books.lead(lane)? else {
             return Ok(Sending::Empty);

@@ -94,6 +94,7 @@ fn run(rt: &HostRuntime) -> anyhow::Result<()> {
         passes: passes.as_str().parse::<u64>()?,
     };
     reader::read(TEXT, &mut bench.sheet).map_err(|_| anyhow!("the sheet was refused"))?;
+    // A name stands for a type here, so it picks the call.
     match card.as_str() {
         "queue" => bench.run(rt, "queue", QueueCard::new),
         "bank" => bench.run(rt, "bank", BankCard::new),

@@ -1,14 +1,14 @@
 -- The nearest ready lane by its bits is the first of the ready lanes in order. Assumes nothing.
-use Rattle.std.proofs.Common.{◌≡◌, ℕ, zero, suc, ◌+◌, ◌/◌, ◌%◌, ◌^◌, ◌<◌, ◌≤◌, min, Bool, true, false, cond, ◌&&◌, ◌||◌, eqb, ltb, ◌⊎◌, List, [], ◌∷◌, length, get_or, Some, None, sum_by, filter, sym, refl, ap, ◌∙◌, subst, inl, inr, ⊎_elim, arith}
+use Rattle.std.proofs.Common.{◌≡◌, ℕ, zero, suc, ◌+◌, ◌*◌, ◌/◌, ◌%◌, ◌^◌, ◌<◌, ◌≤◌, min, Bool, true, false, cond, ◌&&◌, ◌||◌, eqb, ltb, ◌⊎◌, List, [], ◌∷◌, length, get_or, Some, None, sum_by, filter, sym, refl, ap, ◌∙◌, subst, inl, inr, ⊎_elim, w8, arith}
 use lib.Bits.{bit_or}
 use Rattle.std.specs.List.{AllByRecursion}
-use Rattle.std.proofs.lemmas.Nat.{pow_below}
 use Rattle.std.proofs.lemmas.List.Sums.{sum_by-cons}
-use Rattle.std.proofs.lemmas.Bool.{cases_Bool, cases_lt, cases_eq, cond-true, cond-false, cond_both, both_ways, or_left, or_right, and_from, lt-ltb, eq-eqb, eqb-true, ne_eqb, le-leb}
+use Rattle.std.proofs.lemmas.Bool.{cases_Bool, cases_lt, cases_eq, cond-true, cond-false, cond_both, both_ways, or_left, or_right, and_from, lt-ltb, eq-eqb, eqb-true, le-leb}
 use Rattle.heap.specs.Sorting.{upto, sorted}
 use Rattle.heap.proofs.Sorting.{First, Ordered, upto_either, upto_alike, Ordered-sorted, AllByRecursion-sorted, sum_by-sorted, length-sorted, none_before}
 use Rattle.near.specs.Lanes.{distance, table, In, Nearest}
-use Rattle.near.proofs.Sets.{bit_old, bit_new, bit_none, bit_fits}
+use Rattle.std.specs.Int.{bit_at}
+use Rattle.std.proofs.lemmas.Nat.Bits.{bit_at-zero, bit_at_set_same, bit_at_set_other}
 use Rattle.lanes.specs.Lanes.{head_of, starts, least}
 use Rattle.books.specs.Model.{State, lane_at, time_of, ready, ready_with, ready_lanes, eight}
 use Rattle.lanes.specs.declared.records.Request.{Request}
@@ -92,32 +92,33 @@ ready_leads s k t e = go (lane_at s k) t e
 
 -- ---- the bits one by one
 
+-- the bits below n are those of the ready lanes, and no other is set
 pub record Seen (s : State) (n bits : ℕ) : Type 0 where
-  pub small : bits < 2 ^ n
-  pub same : (k : ℕ) → k < n → eqb (bits / 2 ^ k % 2) 1 ≡ ready s k
+  pub same : (k : ℕ) → k < n → eqb (bit_at bits k) 1 ≡ ready s k
+  pub clear : (k : ℕ) → n ≤ k → k < 8 → bit_at bits k ≡ 0
 
-pub seen_more : (s : State) (n bits : ℕ) → ready s n ≡ true → Seen s n bits → Seen s (n + 1) (bit_or bits (2 ^ n))
-seen_more s n bits t h =
+pub seen_none : (s : State) → Seen s 0 0
+seen_none s = record { same = λ k l. absurd (omega (arith, l)); clear = λ k g l. bit_at-zero k }
+
+pub seen_more : (s : State) (n bits : ℕ) → n < 8 → ready s n ≡ true → Seen s n bits → Seen s (n + 1) (bit_or bits (1 * 2 ^ n % 256))
+seen_more s n bits few t h =
     record {
-      small = bit_fits bits n h.small;
       same = λ k l. ⊎_elim
-          (λ (e : k ≡ n). ap (λ i. eqb (bit_or bits (2 ^ n) / 2 ^ i % 2) 1) e ∙ eq-eqb _ 1 (bit_new bits n h.small) ∙ sym t ∙ ap (ready s) (sym e))
-          (λ ne. let m : k < n = omega (arith, l, ne) in ap (λ v. eqb v 1) (bit_old bits n k m) ∙ h.same k m)
+          (λ (e : k ≡ n). ap (λ i. eqb (bit_at (bit_or bits (1 * 2 ^ n % 256)) i) 1) e ∙ eq-eqb _ 1 (bit_at_set_same w8 bits n few) ∙ sym t ∙ ap (ready s) (sym e))
+          (λ ne. ap (λ v. eqb v 1) (bit_at_set_other w8 bits n few k ne) ∙ h.same k (omega (arith, l, ne)))
           (cases_eq k n);
+      clear = λ k g l. bit_at_set_other w8 bits n few k (λ e. absurd (omega (arith, g, e))) ∙ h.clear k (omega (arith, g)) l;
     }
 
-pub seen_pass : (s : State) (n bits : ℕ) → ready s n ≡ false → Seen s n bits → Seen s (n + 1) bits
-seen_pass s n bits f h =
+pub seen_pass : (s : State) (n bits : ℕ) → n < 8 → ready s n ≡ false → Seen s n bits → Seen s (n + 1) bits
+seen_pass s n bits few f h =
     record {
-      small = omega (arith, h.small, two n);
       same = λ k l. ⊎_elim
-          (λ (e : k ≡ n). ap (λ i. eqb (bits / 2 ^ i % 2) 1) e ∙ ne_eqb _ 1 (λ one. omega (arith, one, bit_none bits n h.small)) ∙ sym f ∙ ap (ready s) (sym e))
+          (λ (e : k ≡ n). ap (λ i. eqb (bit_at bits i) 1) e ∙ ap (λ v. eqb v 1) (h.clear n (omega arith) few) ∙ sym f ∙ ap (ready s) (sym e))
           (λ ne. h.same k (omega (arith, l, ne)))
           (cases_eq k n);
+      clear = λ k g l. h.clear k (omega (arith, g)) l;
     }
-  where
-    two : (n : ℕ) → 2 ^ n < 2 ^ (n + 1)
-    two n = pow_below n (n + 1) (omega arith)
 
 -- ---- where anything waits, some lane is ready
 

@@ -63,9 +63,7 @@ impl<C: Card> Board<C> {
             }
             return Ok(Reaping::NotYet);
         };
-        let Some(request) = self.books.finish(ticket) else {
-            return Err(Refusal::Stray(ticket));
-        };
+        let request = self.books.finish(ticket).ok_or(Refusal::Stray(ticket))?;
         self.slots.free();
         Ok(Reaping::Finished {
             ticket,

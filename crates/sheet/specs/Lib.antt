@@ -1,3 +1,4 @@
 pub mod Ranges
+pub mod Listed
 pub mod Sheets
 pub mod Same

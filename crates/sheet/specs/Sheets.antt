@@ -1,8 +1,9 @@
 -- What a share sheet says: the flows with their shares, the lanes with their room, D and T.
-use Rattle.std.specs.Prelude.{◌≡◌, ℕ, ◌<◌, ◌≤◌, true, cond, ◌&&◌, List, [], ◌∷◌, ◌++◌, length, take, Some, None, Option, Result, MatchResult, nat_le, nat_lt, slice_index, slice_index_or}
+use Rattle.std.specs.Prelude.{◌≡◌, ℕ, ◌<◌, ◌≤◌, true, cond, ◌&&◌, List, [], ◌∷◌, ◌++◌, length, Some, None, Option, Result, MatchResult, nat_le, nat_lt, slice_index, slice_index_or}
 use Rattle.charge.specs.Charge.{within, charge_of}
 use Rattle.sheet.specs.declared.flow.Flow.{Flow}
 use Rattle.sheet.specs.declared.shape.Sheet.{Sheet}
+use Rattle.sheet.specs.Listed.{items_of}
 use Rattle.sheet.specs.Ranges.{flow_fits, lane_fits, all_of}
 
 pub record Content : Type 0 where
@@ -15,9 +16,9 @@ pub record Content : Type 0 where
   -- T: how far ahead of virtual time a request that is sent may start
   pub threshold : ℕ
 
--- what a sheet says; what its tables hold past their counts is no part of it
+-- what a sheet says
 abbrev pub content_of : Sheet → Content
-content_of s = record { flows = take s.flow_count s.flows; lanes = take s.lane_count s.lanes; slots = s.slots; threshold = s.threshold }
+content_of s = record { flows = items_of s.flows; lanes = items_of s.lanes; slots = s.slots; threshold = s.threshold }
 
 -- no flows, no lanes, D 1 and T 0
 abbrev pub blank : Content

@@ -3,6 +3,7 @@ ghost use Rattle.std.specs.Prelude.{◌≡◌};
 ghost use Rattle.sheet.specs.Sheets.{Becomes, blank, content_of, with_flow, with_lane, with_slots, with_threshold};
 
 use crate::flow::Flow;
+use crate::list::FixedList;
 use crate::shape::Sheet;
 
 // A number is not in its range, or a flow or lane is one too many.
@@ -14,15 +15,9 @@ impl Sheet {
     pub fn new() -> Sheet
         ensures { content_of result ≡ blank }
     {
-        let unused = Flow {
-            weight: 1,
-            longest: 1,
-        };
         Sheet {
-            flows: [unused; 16],
-            flow_count: 0,
-            lanes: [1; 8],
-            lane_count: 0,
+            flows: FixedList::new(),
+            lanes: FixedList::new(),
             slots: 1,
             threshold: 0,
         }
@@ -32,34 +27,30 @@ impl Sheet {
     pub fn push_flow(&mut self, weight: u64, longest: u64) -> Result<(), OutOfRange>
         ensures { Becomes result (with_flow (content_of self.old) weight longest) (content_of self.old) (content_of self.new) }
     {
-        if self.flow_count >= 16 || weight < 1 || weight > 100 || longest < 1 || longest > 2048 {
+        if !(1..=100).contains(&weight) || !(1..=2048).contains(&longest) {
             return Err(OutOfRange);
         }
-        self.flows[self.flow_count] = Flow {
+        self.flows.push(Flow {
             weight: weight as u8,
             longest: longest as u16,
-        };
-        self.flow_count += 1;
-        Ok(())
+        })
     }
 
     /// Adds a lane in which so many requests may wait.
     pub fn push_lane(&mut self, capacity: u64) -> Result<(), OutOfRange>
         ensures { Becomes result (with_lane (content_of self.old) capacity) (content_of self.old) (content_of self.new) }
     {
-        if self.lane_count >= 8 || capacity < 1 || capacity > 32 {
+        if !(1..=32).contains(&capacity) {
             return Err(OutOfRange);
         }
-        self.lanes[self.lane_count] = capacity as u8;
-        self.lane_count += 1;
-        Ok(())
+        self.lanes.push(capacity as u8)
     }
 
     /// Sets D.
     pub fn set_slots(&mut self, slots: u64) -> Result<(), OutOfRange>
         ensures { Becomes result (with_slots (content_of self.old) slots) (content_of self.old) (content_of self.new) }
     {
-        if slots < 1 || slots > 32 {
+        if !(1..=32).contains(&slots) {
             return Err(OutOfRange);
         }
         self.slots = slots as u8;

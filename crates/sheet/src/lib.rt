@@ -3,6 +3,7 @@
 
 pub mod build;
 pub mod flow;
+pub mod list;
 pub mod looks;
 pub mod same;
 pub mod shape;

@@ -11,34 +11,28 @@ impl Sheet {
     pub fn flow_count(&self) -> u32
         ensures { (result ≡ length (content_of self.now).flows) × (result ≤ 16) }
     {
-        self.flow_count as u32
+        self.flows.as_slice().len() as u32
     }
 
     /// How many lanes there are.
     pub fn lane_count(&self) -> u32
         ensures { (result ≡ length (content_of self.now).lanes) × (result ≤ 8) }
     {
-        self.lane_count as u32
+        self.lanes.as_slice().len() as u32
     }
 
     /// The share of a flow, or `None` where there is no such flow.
     pub fn flow(&self, i: u32) -> Option<Flow>
         ensures { MatchOption result (length (content_of self.now).flows ≤ i) (FlowIn (content_of self.now) i) }
     {
-        if i as usize >= self.flow_count {
-            return None;
-        }
-        Some(self.flows[i as usize])
+        self.flows.as_slice().get(i as usize).copied()
     }
 
     /// How many requests may wait in a lane, or `None` where there is no such lane.
     pub fn lane(&self, i: u32) -> Option<u8>
         ensures { MatchOption result (length (content_of self.now).lanes ≤ i) (LaneIn (content_of self.now) i) }
     {
-        if i as usize >= self.lane_count {
-            return None;
-        }
-        Some(self.lanes[i as usize])
+        self.lanes.as_slice().get(i as usize).copied()
     }
 
     /// D: how many requests may be in the card.
@@ -68,9 +62,9 @@ impl Flow {
         ensures value { 1 ≤ self.now.weight → self.now.weight ≤ 100 → self.now.longest ≤ 2048 → result ≡ flow_charge self.now length }
         ensures bounds { IfSome result (λ c. (1 ≤ c) × (c ≤ 1720320)) }
     {
-        if length > self.longest as u32 {
+        if length > u32::from(self.longest) {
             return None;
         }
-        charge::charge(length, self.weight as u32)
+        charge::charge(length, u32::from(self.weight))
     }
 }

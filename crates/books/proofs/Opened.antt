@@ -1,10 +1,10 @@
 -- The books by their fields. Assumes nothing.
-use Rattle.std.proofs.Common.{◌≡◌, ℕ, ◌<◌, ◌≤◌, true, ◌||◌, eqb, ltb, leb, List, length, get_or, take, set, Some, None, Option, sym, ap, ◌∙◌, ⊎_elim, arith}
+use Rattle.std.proofs.Common.{◌≡◌, ℕ, ◌<◌, ◌≤◌, true, ◌||◌, eqb, ltb, leb, List, length, get_or, set, Some, None, Option, sym, ap, ◌∙◌, ⊎_elim, arith}
 use Rattle.std.proofs.lemmas.List.{get_or-map, get_or_past, length-map, map-set, set-get_or}
 use Rattle.std.proofs.lemmas.Bool.{cases_Bool, cases_eq, cases_lt, cond-true, cond-false, or_left, or_right, and_from, and_parts, eq-eqb, lt-ltb, le-leb, leb-true}
 use Rattle.charge.specs.Charge.{charge_of, within}
 use Rattle.sheet.specs.Ranges.{lane_fits}
-use Rattle.sheet.specs.Sheets.{FlowIn, LaneIn, flow_charge}
+use Rattle.sheet.specs.Sheets.{FlowIn, LaneIn, content_of, flow_charge}
 use Rattle.sheet.proofs.Fits.{all_of_at, within_true}
 use Rattle.sheet.specs.declared.flow.Flow.{Flow}
 use Rattle.books.specs.Model.{State, waiting, flow_is, flow_at, lane_at}
@@ -90,7 +90,7 @@ priced s f l n share k c p q value =
 -- at most 32 wait in a lane
 pub lane_few : (b : Books) (l : ℕ) → length (lane_at (state_of b) l) ≤ 32
 lane_few b l =
-    let ks = take b.sheet.lane_count b.sheet.lanes in
+    let ks = (content_of b.sheet).lanes in
     ⊎_elim
     (λ (there : l < length ks). let fit = within_true 1 32 (get_or ks l 0) (all_of_at lane_fits ks l 0 b.sheet.lanes_fit there) in omega (arith, b.sound.within l, fit.1))
     (λ (past : length ks ≤ l). omega (arith, b.sound.within l, get_or_past ks l 0 past))

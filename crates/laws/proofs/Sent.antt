@@ -2,14 +2,15 @@
 use Rattle.std.proofs.Common.{◌≡◌, ℕ, zero, suc, ◌+◌, ◌<◌, ◌≤◌, true, ◌||◌, eqb, ltb, leb, List, [], ◌∷◌, map, length, get_or, take, replicate, Some, None, Ok, Err, sum_by, filter, Option, Result, sym, refl, ap, ◌∙◌, subst, inr, ⊎_elim, arith, MatchResult}
 use Rattle.std.specs.List.{AllByRecursion}
 use Rattle.std.specs.List.Sorted.{IsPermutation}
-use Rattle.std.proofs.lemmas.List.{length-map, length-take, nil_from_length}
+use Rattle.std.proofs.lemmas.List.{length-map, nil_from_length}
 use Rattle.std.proofs.lemmas.List.Sums.{sum_by-cons}
 use Rattle.std.proofs.lemmas.List.Sorted.{IsPermutation-refl}
 use Rattle.std.proofs.ByRecursion.{all_shuffled}
 use Rattle.std.proofs.lemmas.Bool.{cond_both, cond-true, cond-false, leb-true, leb-false, ltb-false, or_parts, cases_Bool, eqb-true}
-use Rattle.sheet.proofs.Fits.{all_of_at, flow_fits_lem}
+use Rattle.lanes.proofs.Facts.{lanes_ordered}
+use Rattle.sheet.proofs.Fits.{all_of_at, flow_fits_lem, sheet_fits}
 use Rattle.sheet.specs.Ranges.{flow_fits}
-use Rattle.sheet.specs.Sheets.{no_flow}
+use Rattle.sheet.specs.Sheets.{content_of, no_flow}
 use Rattle.heap.proofs.Sorting.{Ordered, Ordered-sorted, sum_by-insert, AllByRecursion-sorted}
 use Rattle.card.specs.declared.CardFault.{CardFault}
 use Rattle.shares.specs.Events as share
@@ -171,16 +172,12 @@ loads_step_lem depth held s sheet o =
 
 -- ---- the code's books
 
-lanes_ordered : (ls : List Lane) → AllByRecursion (Ordered by_start) (lanes_in ls)
-lanes_ordered [] = tt
-lanes_ordered (l ∷ ls) = (Ordered-sorted by_start (take l.count l.slots), lanes_ordered ls)
-
 pub books_fair_lem : BooksFair
 books_fair_lem b =
-    let s = b.sheet in
-    let fs = take s.flow_count s.flows in (
-      omega (arith, length-take s.flow_count s.flows, s.few_flows),
-      omega (arith, length-take s.lane_count s.lanes, s.few_lanes),
-      (λ f l. (flow_fits_lem (get_or fs f no_flow) (all_of_at flow_fits fs f no_flow s.flows_fit l)).0),
-      lanes_ordered b.lanes.array.lanes,
+    let fits = sheet_fits b.sheet in
+    let fs = (content_of b.sheet).flows in (
+      fits.few_flows,
+      fits.few_lanes,
+      (λ f l. (flow_fits_lem (get_or fs f no_flow) (all_of_at flow_fits fs f no_flow fits.flows_fit l)).0),
+      lanes_ordered b.lanes,
     )

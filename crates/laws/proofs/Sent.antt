@@ -1,5 +1,5 @@
 -- What is sent, finished and loaded is a step. Assumes nothing.
-use Rattle.std.proofs.Common.{◌≡◌, ℕ, zero, suc, ◌+◌, ◌<◌, ◌≤◌, true, ◌||◌, eqb, ltb, leb, List, [], ◌∷◌, map, length, get_or, take, replicate, Some, None, Ok, Err, sum_by, filter, Option, Result, sym, refl, ap, ◌∙◌, subst, inr, ⊎_elim, arith, MatchResult}
+use Rattle.std.proofs.Common.{◌≡◌, ℕ, zero, suc, ◌+◌, ◌<◌, ◌≤◌, true, ◌||◌, eqb, ltb, leb, List, [], ◌∷◌, map, length, get_or, replicate, Some, None, Ok, Err, sum_by, filter, Option, Result, sym, refl, ap, ◌∙◌, subst, inr, ⊎_elim, arith, MatchResult}
 use Rattle.std.specs.List.{AllByRecursion}
 use Rattle.std.specs.List.Sorted.{IsPermutation}
 use Rattle.std.proofs.lemmas.List.{length-map, nil_from_length}
@@ -11,18 +11,16 @@ use Rattle.lanes.proofs.Facts.{lanes_ordered}
 use Rattle.sheet.proofs.Fits.{all_of_at, flow_fits_lem, sheet_fits}
 use Rattle.sheet.specs.Ranges.{flow_fits}
 use Rattle.sheet.specs.Sheets.{content_of, no_flow}
-use Rattle.heap.proofs.Sorting.{Ordered, Ordered-sorted, sum_by-insert, AllByRecursion-sorted}
+use Rattle.heap.proofs.Sorting.{Ordered, sum_by-insert, AllByRecursion-sorted}
 use Rattle.card.specs.declared.CardFault.{CardFault}
 use Rattle.shares.specs.Events as share
 use Rattle.shares.specs.Steps as step
 use Rattle.shares.proofs.Shuffles.{requests_from_sums, sum_by-map}
 use Rattle.lanes.specs.Lanes.{starts}
-use Rattle.lanes.specs.Waits.{lanes_in}
 use Rattle.near.specs.Lanes.{distance}
 use Rattle.books.specs.Model.{State, lane_at, moved_from, found, without, ready, ready_with, ready_lanes, eight}
 use Rattle.lanes.specs.Records.{by_start, by_ticket, ticket_is}
 use Rattle.books.specs.Sound.{Sound}
-use Rattle.lanes.specs.declared.lane.Lane.{Lane}
 use Rattle.lanes.specs.declared.records.Request.{Request}
 use Rattle.books.specs.declared.refusal.Refusal.{Refusal}
 use Rattle.books.proofs.Ready.{all_kept, each}

@@ -1,4 +1,4 @@
-// A list with room for a fixed number of elements, kept in place: it is copied freely, and allocates nothing.
+// A list with room for a fixed number of elements, kept in place: it allocates nothing and, unlike `ArrayVec`, is copied freely, as a sheet is.
 ghost use Rattle.std.specs.Prelude.{◌≡◌, ◌≤◌, ◌<◌, [], ◌∷◌, ◌++◌, length, MatchResult};
 
 use crate::build::OutOfRange;
@@ -13,6 +13,7 @@ pub struct FixedList<T, const N: usize> {
     ghost few: { len ≤ N },
 }
 
+// A copy is a clone; none can be derived beside a ghost field.
 impl<T: Copy, const N: usize> Clone for FixedList<T, N> {
     fn clone(&self) -> Result<FixedList<T, N>, AllocError> {
         Ok(*self)
@@ -43,10 +44,6 @@ impl<T: Copy + Default, const N: usize> FixedList<T, N> {
             len: 0,
         }
     }
-}
-
-impl<T: Copy, const N: usize> FixedList<T, N> {
-    ghost use Rattle.sheet.specs.Listed.{items_of};
 
     // Adds an element at the end, where there is room.
     pub(crate) fn push(&mut self, element: T) -> Result<(), OutOfRange>
@@ -61,6 +58,7 @@ impl<T: Copy, const N: usize> FixedList<T, N> {
     }
 }
 
+// What stands in the places past the count is not compared.
 impl<T: PartialEq, const N: usize> PartialEq for FixedList<T, N> {
     ghost use Rattle.sheet.specs.Listed.{items_of};
     ghost use Rattle.std.specs.Cmp.Lexicographic.{pointwise};

@@ -1,21 +1,12 @@
 -- The steps of the loops over a line's bytes.
-use Rattle.std.proofs.Common.{◌≡◌, ℕ, ◌+◌, ◌-◌, ◌*◌, ◌^◌, ◌<◌, ◌≤◌, not, ◌&&◌, eqb, ltb, leb, ◌⊎◌, List, [], ◌∷◌, length, get_or, take, drop, Some, None, Option, cond, sym, refl, ap, ◌∙◌, subst, ⊎_elim, pow-suc, add-one, add_comm, arith}
+use Rattle.std.proofs.Common.{◌≡◌, ℕ, ◌+◌, ◌-◌, ◌*◌, ◌^◌, ◌<◌, ◌≤◌, not, ◌&&◌, eqb, ltb, leb, ◌⊎◌, List, [], ◌∷◌, length, get_or, take, drop, Some, None, Option, cond, sym, refl, ap, ◌∙◌, ⊎_elim, pow-suc, add-one, add_comm, arith}
 use Rattle.std.proofs.Math.Nat.{pow-le-pow_right}
-use Rattle.std.proofs.lemmas.List.{at_drop_more, at_drop_all, take_rest}
-use Rattle.std.proofs.lemmas.Bool.{cond-true, cond-false, cond_both, ne_eqb, eq-eqb, le-leb, le-ltb, cond_below, and_from, and_parts, and_left, and_right, not_from_false, cases_Bool, leb-true, lt-ltb}
+use Rattle.std.proofs.lemmas.List.{take_rest}
+use Rattle.std.proofs.lemmas.Bool.{cond-true, cond-false, cond_both, ne_eqb, le-leb, le-ltb, and_from, and_parts, and_left, and_right, not_from_false, cases_Bool, leb-true, lt-ltb}
 use Rattle.std.specs.Option.{option_map}
 use Rattle.std.specs.List.{position, position_or_len}
 use Rattle.std.proofs.lemmas.List.Recursion.{is_position_or_len}
 use Rattle.reader.specs.Lines.{before, cut_at, is_digit, digits_from, value_below, sized, padded, number_of}
-
-pub before_on : (b : ℕ) (xs : List ℕ) (i : ℕ) → i < length xs → (get_or xs i 0 ≡ b → ⊥) → before b (drop i xs) ≡ before b (drop (i + 1) xs) + 1
-before_on b xs i h ne = at_drop_more (before b) xs i 0 h ∙ cond-false (eqb (get_or xs i 0) b) 0 (before b (drop (i + 1) xs) + 1) (ne_eqb _ _ ne)
-
-pub before_here : (b : ℕ) (xs : List ℕ) (i : ℕ) → i < length xs → get_or xs i 0 ≡ b → before b (drop i xs) ≡ 0
-before_here b xs i h e = at_drop_more (before b) xs i 0 h ∙ cond-true (eqb (get_or xs i 0) b) 0 (before b (drop (i + 1) xs) + 1) (eq-eqb _ _ e)
-
-pub before_end : (b : ℕ) (xs : List ℕ) (i : ℕ) → length xs ≤ i → before b (drop i xs) ≡ 0
-before_end b xs i h = at_drop_all (before b) xs i h
 
 pub number_is : (ds : List ℕ) → 1 ≤ length ds → length ds ≤ 10 → (length ds ≤ 1) ⊎ (get_or ds 0 0 ≡ 48 → ⊥) → number_of ds ≡ digits_from 0 ds
 number_is ds lo hi o =
@@ -43,12 +34,6 @@ cut_missing b s r e n = sym (cut_of b s ∙ ap (option_map (λ i. (take i s, dro
 
 pub cut_found : (b : ℕ) (s : List ℕ) (r : Option ℕ) (i : ℕ) → r ≡ position (λ x. eqb x b) s → r ≡ Some i → Some (take i s, take (length s - (i + 1)) (drop (i + 1) s)) ≡ cut_at b s
 cut_found b s r i e n = rw take_rest (sym (cut_of b s ∙ ap (option_map (λ j. (take j s, drop (j + 1) s))) (sym e ∙ n)))
-
-pub cut_here : (b : ℕ) (s : List ℕ) (i : ℕ) → i ≡ before b s → i < length s → Some (take (i - 0) s, take (length s - (i + 1)) (drop (i + 1) s)) ≡ cut_at b s
-cut_here b s i e h =
-    let z : i - 0 ≡ i = omega arith in
-    let k : before b s < length s = omega arith in
-    rw (z, take_rest) (subst (λ j. Some (take j s, drop (j + 1) s) ≡ cut_at b s) (sym e) (cond_below (before b s) (length s) _ None k))
 
 -- so ten digits stay below 10 ^ 10
 pub below_ten : (i n : ℕ) (ds : List ℕ) → n < 10 ^ i → i + length ds ≤ 10 → value_below (10 ^ 10) n ds ≡ digits_from n ds

@@ -1,5 +1,5 @@
 -- One submit to a bank card: the bank of the ticket decides, and takes the command.
-use Rattle.std.proofs.Common.{◌≡◌, ℕ, ◌+◌, ◌%◌, ◌<◌, Bool, true, false, cond, ltb, List, [], ◌∷◌, ◌++◌, length, get_or, set, Ok, Err, Result, sym, ap, ◌∙◌, subst, arith, lt-ltb, length-set}
+use Rattle.std.proofs.Common.{◌≡◌, ℕ, ◌+◌, ◌%◌, ◌<◌, Bool, true, false, List, [], ◌∷◌, ◌++◌, length, get_or, set, Ok, Err, Result, sym, ap, ◌∙◌, subst, arith, length-set}
 use Rattle.std.proofs.lemmas.List.{get_or_default, set-get_or}
 use Rattle.card.specs.declared.Command.{Command}
 use Rattle.card.specs.declared.CardFault.{CardFault}
@@ -32,20 +32,18 @@ module _ (banks : List (List Job)) (count : ℕ) (c : Command) (b : ℕ) (d : Li
       subst (Submits banks c (Err HeldAlready)) kept
       (record { card = (omega (arith, s.counted), held, same_refl (commands_all banks)); answer = sym (ap (λ p. p.0) rule); left = sym (ap (λ p. p.1) rule) })
 
-  -- it does not, and what was pushed there is `jobs`
-  pub takes : (r : Bool) (jobs : List Job) → false ≡ among c.ticket (commands_in (get_or banks b d)) → r ≡ ltb (length (get_or banks b d)) 32 → jobs ≡ cond r (get_or banks b d ++ fresh c ∷ []) (get_or banks b d) → Submits banks c (Ok tt) (set banks b jobs) × Sound (set banks b jobs) (count + 1)
-  takes r jobs is full held =
-      let old = get_or banks b d in
+  pub has_room : length (get_or banks b d) < 32
+  has_room = let most = bank_le banks (c.ticket % 4) in let same = ap length here in omega (arith, s.counted)
+
+  -- it does not, and has `jobs` now
+  pub takes : (jobs : List Job) → false ≡ among c.ticket (commands_in (get_or banks b d)) → jobs ≡ get_or banks b d ++ fresh c ∷ [] → Submits banks c (Ok tt) (set banks b jobs) × Sound (set banks b jobs) (count + 1)
+  takes jobs is held =
       let put = put_in banks (c.ticket % 4) (fresh c) in
       let new = decides false is in
       let rule = submit_put banks c (omega (arith, s.counted)) new in
       let more = more_put banks (c.ticket % 4) c (omega (arith, s.four)) in
       let count' = more_length c (commands_all banks) (commands_all put) more in
-      let most = bank_le banks (c.ticket % 4) in
-      let same = ap length here in
-      let yes : ltb (length old) 32 ≡ true = lt-ltb (length old) 32 (omega (arith, s.counted)) in
-      let pushed : jobs ≡ get_or banks (c.ticket % 4) [] ++ fresh c ∷ [] = held ∙ ap (λ v. cond v (old ++ fresh c ∷ []) old) (full ∙ yes) ∙ ap (λ js. js ++ fresh c ∷ []) (sym here) in
-      let is_put : set banks b jobs ≡ put = ap (λ i. set banks i jobs) at ∙ ap (set banks (c.ticket % 4)) pushed in
+      let is_put : set banks b jobs ≡ put = ap (λ i. set banks i jobs) at ∙ ap (set banks (c.ticket % 4)) (held ∙ ap (λ js. js ++ fresh c ∷ []) (sym here)) in
       subst (λ after. Submits banks c (Ok tt) after × Sound after (count + 1)) (sym is_put) (
         record { card = (omega (arith, s.counted), new, more); answer = sym (ap (λ p. p.0) rule); left = sym (ap (λ p. p.1) rule) },
         record { four = simp length-set s.four; counted = omega (arith, s.counted, count'); placed = placed_put banks c s.four s.placed },

@@ -1,18 +1,19 @@
 // One bank: its commands oldest first, with the work left on the oldest.
-ghost use Rattle.std.specs.Prelude.{◌≡◌, [], ◌∷◌, ◌++◌, length, if◌then◌else◌, nat_lt};
+ghost use Rattle.std.specs.Prelude.{◌≡◌, [], ◌∷◌, ◌++◌, ◌<◌, ◌≤◌, length, MatchResult};
 ghost use Rattle.card.specs.Commands.{among};
+ghost use Rattle.card.specs.declared.CardFault.TheVariants.{Full};
 ghost use Rattle.ring.specs.Rings.{head_of, tail_of};
 ghost use Rattle.bank.specs.Jobs.{commands_in, fresh, lowered, ready, work_of};
 ghost use Rattle.bank.specs.Rules.{answer_of};
 
-use card::Command;
+use card::{CardFault, Command};
 use ring::Ring;
 use std::marker::Model;
 
 #[derive(Drop)]
 pub(crate) struct Bank {
     commands: Ring<32>,
-    /// The work left on the oldest command; it means nothing where there is none.
+    /// The work left on the oldest command; 0 where there is none.
     left: u16,
 }
 
@@ -43,10 +44,9 @@ impl Bank {
         self.commands.contains(ticket)
     }
 
-    /// Puts a command behind the others; false, and nothing changes, where there is no place.
-    pub(crate) fn push(&mut self, command: Command) -> bool
-        ensures room { result ≡ nat_lt (length self.old) 32 }
-        ensures jobs { self.new ≡ (if result then self.old ++ fresh command ∷ [] else self.old) }
+    /// Puts a command behind the others. Where there is no place it is `Full`, and nothing changes.
+    pub(crate) fn push(&mut self, command: Command) -> Result<(), CardFault>
+        ensures { MatchResult result (λ _. (length self.old < 32) × (self.new ≡ self.old ++ fresh command ∷ [])) (λ fault. (fault ≡ Full) × (32 ≤ length self.old) × (self.new ≡ self.old)) }
     {
         if self.commands.len() == 0 {
             self.left = work(command.sectors);

@@ -43,7 +43,7 @@ impl Card for BankCard {
         if bank.contains(command.ticket) {
             return Err(CardFault::HeldAlready);
         }
-        bank.push(command);
+        bank.push(command)?;
         self.count += 1;
         Ok(())
     }

@@ -46,8 +46,7 @@ impl Card for QueueCard {
         if self.commands.contains(command.ticket) {
             return Err(CardFault::HeldAlready);
         }
-        self.commands.push(command);
-        Ok(())
+        self.commands.push(command)
     }
 
     fn finish(&mut self) -> Option<(u32, u8)>

@@ -1,11 +1,12 @@
 // What a ring can be asked and told.
-ghost use Rattle.std.specs.Prelude.{◌≡◌, ◌+◌, ◌-◌, ◌<◌, ◌≤◌, [], ◌∷◌, ◌++◌, length, if◌then◌else◌, nat_lt};
+ghost use Rattle.std.specs.Prelude.{◌≡◌, ◌+◌, ◌-◌, ◌<◌, ◌≤◌, [], ◌∷◌, ◌++◌, length, MatchResult};
 ghost use Rattle.card.specs.Commands.{among};
+ghost use Rattle.card.specs.declared.CardFault.TheVariants.{Full};
 ghost use Rattle.ring.specs.Circle.{wrap};
 ghost use Rattle.ring.specs.Rings.{head_of, tail_of};
 
 use crate::Ring;
-use card::{Command, has_ticket};
+use card::{CardFault, Command, has_ticket};
 
 impl<const N: usize> Ring<N> {
     /// A ring that holds no command.
@@ -24,6 +25,7 @@ impl<const N: usize> Ring<N> {
         ensures count { result ≡ length self.now }
         ensures within { result ≤ N }
     {
+        // The check needs the type of the places, which `len` alone does not name.
         let _ = &self.places;
         self.len
     }
@@ -49,18 +51,17 @@ impl<const N: usize> Ring<N> {
         Some(oldest)
     }
 
-    /// Puts a command behind the others; false, and nothing changes, where there is no place.
-    pub fn push(&mut self, command: Command) -> bool
-        ensures room { result ≡ nat_lt (length self.old) N }
-        ensures held { self.new ≡ (if result then self.old ++ command ∷ [] else self.old) }
+    /// Puts a command behind the others. Where there is no place it is `Full`, and nothing changes.
+    pub fn push(&mut self, command: Command) -> Result<(), CardFault>
+        ensures { MatchResult result (λ _. (length self.old < N) × (self.new ≡ self.old ++ command ∷ [])) (λ fault. (fault ≡ Full) × (N ≤ length self.old) × (self.new ≡ self.old)) }
     {
         if self.len >= N {
-            return false;
+            return Err(CardFault::Full);
         }
         let free = free_place::<N>(self.first, self.len);
         self.places[free] = command;
         self.len += 1;
-        true
+        Ok(())
     }
 
     /// Whether a command with this ticket is held.

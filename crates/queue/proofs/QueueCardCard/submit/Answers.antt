@@ -1,5 +1,5 @@
-use Rattle.std.proofs.Common.{◌≡◌, ◌<◌, false, [], ◌∷◌, ◌++◌, length, sym, ap, ◌∙◌, arith}
-use Rattle.card.specs.Commands.{among}
+use Rattle.std.proofs.Common.{◌≡◌, ◌<◌, false, [], ◌∷◌, ◌++◌, length, sym, ap, ◌∙◌, subst, arith}
+use Rattle.card.specs.Commands.{among, Submitted}
 use Rattle.card.proofs.Bags.{more_end}
 use Rattle.ring.proofs.Uses.{pushed_room}
 use Rattle.queue.proofs.Queued.{submit_taken}
@@ -12,6 +12,6 @@ returns c =
     let d = c.args.command in
     let room : length before < 16 = omega arith in
     let new : among d.ticket before ≡ false = sym c.if-contains.ensures in
-    let pushed : after ≡ before ++ d ∷ [] = pushed_room 16 before after d c.push.result room c.push.ensures.room c.push.ensures.held in
+    let pushed = pushed_room 16 before after (before ++ d ∷ []) c.push.result room c.push.ensures in
     let rule = submit_taken before d room new in
-    record { card = (room, new, more_end d before after pushed); answer = sym (ap (λ p. p.0) rule); queue = pushed ∙ sym (ap (λ p. p.1) rule) }
+    record { card = subst (λ r. Submitted 16 before d r after) (sym pushed.0) (room, new, more_end d before after pushed.1); answer = pushed.0 ∙ sym (ap (λ p. p.0) rule); queue = pushed.1 ∙ sym (ap (λ p. p.1) rule) }

@@ -5,9 +5,7 @@ use slots::{Grant, Slots, hand_over};
 use std::test::Fail;
 
 fn granted(slots: &mut Slots) -> Result<Grant, Fail> {
-    slots
-        .take()
-        .ok_or_else(|| Fail::new("all slots are out"))
+    slots.take().ok_or_else(|| Fail::new("all slots are out"))
 }
 
 fn check_all_out(slots: &mut Slots) -> Result<(), Fail> {

@@ -63,10 +63,10 @@ impl<C: Card> Board<C> {
             }
             return Ok(Reaping::NotYet);
         };
-        // Written out: `ok_or` and `?` took 16 instructions a call more.
-        let Some(request) = self.books.finish(ticket) else {
-            return Err(Refusal::Stray(ticket));
-        };
+        let request = self
+            .books
+            .finish(ticket)
+            .ok_or(Refusal::Stray(ticket))?;
         self.slots.free();
         Ok(Reaping::Finished {
             ticket,

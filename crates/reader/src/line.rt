@@ -78,6 +78,7 @@ fn add_param(line: &[u8], draft: &mut Draft) -> Result<(), Refusal>
     if !draft.last.is_none_or(|last| last < next) {
         return Err(Refusal::Order);
     }
+    // Each parameter has its own range, which its setter asks.
     match next {
         Parameter::Slots => draft.sheet.set_slots(n)?,
         Parameter::Threshold => draft.sheet.set_threshold(n)?,

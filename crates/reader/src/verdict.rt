@@ -11,6 +11,7 @@ use std::alloc::{AllocError, Global};
 /// How many bytes of an input decide the verdict: one more than a sheet may have.
 pub const ENOUGH: u64 = 257;
 
+// The counts and not the sheet are printed, so this is no `Display` of a sheet.
 fn accepted(heap: Global, sheet: &Sheet) -> Result<String, AllocError>
     ensures { IfOk result (λ s. string_bytes s ≡ line_for (Ok (content_of sheet.now))) }
 {

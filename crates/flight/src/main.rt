@@ -18,11 +18,11 @@ use std::process::ExitCode;
 // Prints the line of each step.
 fn print_report<'a>(rt: &HostRuntime, steps: &'a [Step], answers: &'a [Answer]) -> io::Result<()> {
     let mut report = Report::new(steps, answers);
-    let mut piece = String::new(rt.alloc());
+    let mut piece = Vec::new(rt.alloc());
     while report.fill(&mut piece)? {
-        rt.stdout().write_all(piece.as_bytes())?;
+        rt.stdout().write_all(&piece)?;
     }
-    rt.stdout().write_all(piece.as_bytes())
+    rt.stdout().write_all(&piece)
 }
 
 // Makes the calls of a script on a new board around the card, and prints the answers.

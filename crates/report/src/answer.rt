@@ -1,5 +1,5 @@
 // The lines of answers.
-ghost use Rattle.std.specs.Prelude.{Some};
+ghost use Rattle.std.specs.Prelude.{◌≡◌, ◌++◌, OnOk, Some};
 ghost use Rattle.report.specs.Answers.{answer_line, card_line, flow_line, reaping_line, refused_line, sending_line, step_line, unread_line};
 
 use board::answer::{Reaping, Sending};
@@ -8,6 +8,7 @@ use books::refusal::Refusal;
 use card::CardFault;
 use fly::call::Answer;
 use reader::fault::SheetFault;
+use std::alloc::AllocError;
 use std::fmt;
 
 /// Shown as the line that tells of a value, with its line feed.
@@ -128,4 +129,22 @@ impl fmt::Display for Line<Result<Answer, SheetFault>> {
             Err(fault) => write!(f, "{}", Line(fault)),
         }
     }
+}
+
+/// Appends the line of an answer.
+pub fn put_answer(out: &mut Vec<u8>, answer: Answer) -> Result<(), AllocError>
+    ensures { OnOk result (out.new.items ≡ out.old.items ++ answer_line answer) }
+{
+    let line = format!(in *out.allocator(); "{}", Line(answer))?;
+    out.extend_from_slice(line.as_bytes())?;
+    Ok(())
+}
+
+/// Appends the line of a sheet that was refused.
+pub fn put_unread(out: &mut Vec<u8>, fault: SheetFault) -> Result<(), AllocError>
+    ensures { OnOk result (out.new.items ≡ out.old.items ++ unread_line fault) }
+{
+    let line = format!(in *out.allocator(); "{}", Line(fault))?;
+    out.extend_from_slice(line.as_bytes())?;
+    Ok(())
 }

@@ -26,7 +26,17 @@ impl<'a> Report<'a> {
     }
 
     /// Puts the next lines into `out`, in place of what it holds. True where there may be more.
-    pub fn fill(&mut self, out: &mut String) -> Result<bool, AllocError>
+    pub fn fill(&mut self, out: &mut Vec<u8>) -> Result<bool, AllocError>
+        ensures { IfOk result (λ more. Filled more self.old self.new out.new.items) }
+    {
+        let mut piece = String::with_capacity(*out.allocator(), PIECE)?;
+        let more = self.write_piece(&mut piece)?;
+        *out = piece.into_bytes();
+        Ok(more)
+    }
+
+    // The same, as text.
+    fn write_piece(&mut self, out: &mut String) -> Result<bool, AllocError>
         ensures { IfOk result (λ more. Filled more self.old self.new (string_bytes out.new)) }
     {
         out.clear();

@@ -1,5 +1,5 @@
 // The lines that no rehearsal meets: a new card refuses nothing that a board sends, and finishes nothing else.
-use crate::answer::Line;
+use crate::answer::put_answer;
 use books::refusal::Refusal;
 use card::CardFault;
 use fly::call::Answer;
@@ -7,8 +7,9 @@ use std::process::Abort;
 use std::test::Fail;
 
 fn is_line(rt: &(impl Abort + AllocGlobal), refusal: Refusal, line: &[u8]) -> Result<(), Fail> {
-    let out = format!(in rt.alloc(); "{}", Line(Answer::Moved(Err(refusal))))?;
-    assert!(rt; out.as_bytes() == line);
+    let mut out = Vec::new(rt.alloc());
+    put_answer(&mut out, Answer::Moved(Err(refusal)))?;
+    assert!(rt; out.as_slice() == line);
     Ok(())
 }
 

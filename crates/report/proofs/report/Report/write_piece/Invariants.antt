@@ -2,7 +2,7 @@ use Rattle.std.proofs.Common.{◌≡◌, ◌<◌, ◌≤◌, ◌⊎◌, [], ◌+
 use Rattle.std.specs.Slice.Iter.{iter_rest}
 use Rattle.std.specs.String.{string_bytes}
 use Rattle.report.specs.Pieces.{text_of}
-use Rattle.report.proofs.report.Report.fill.Given as goal
+use Rattle.report.proofs.report.Report.write_piece.Given as goal
 
 -- nothing is lost; and once something is put out, fewer steps are left
 abbrev pub invariant-loop-self : goal.invariant-loop-self

@@ -22,7 +22,7 @@ pub(crate) enum Call {
 }
 
 impl Call {
-    // Makes the call, and tells the word of its answer. The answers as one enum between the two took 46 instructions a call.
+    // Makes the call, and tells the word of its answer. The answers as one enum between the two took some 50 instructions a call.
     fn word<C: Card>(self, board: &mut Board<C>) -> u64 {
         match self {
             Call::Arrive { flow, lane, length } => {

@@ -1,12 +1,9 @@
 use Rattle.std.proofs.Common.{◌+◌, [], ◌++◌, Ok, sym, ap, ◌∙◌, subst}
 use Rattle.script.specs.Scripts.{Says, after}
 use Rattle.script.specs.Views.{rest_of}
-use Rattle.script.proofs.Deeds.{adds_none, adds_more, after_none, after_more}
+use Rattle.script.proofs.Deeds.{adds_more, after_more}
 use Rattle.script.proofs.Turns.{ended, holds_from}
 use Rattle.script.proofs.reading.read_script.Goals as goal
-
-pub loop-number-init : goal.loop-number-init
-loop-number-init c = ([], adds_none _, λ o says. subst (λ p. Says (rest_of c.take_card.new.self) c.take_card.new.self.line p) (sym (after_none o)) says)
 
 pub loop-number-preserved : goal.loop-number-preserved
 loop-number-preserved c =

@@ -7,9 +7,6 @@ use Rattle.script.specs.declared.fault.Expected.TheVariants.{Card}
 use Rattle.script.proofs.Turns.{card_placed, card_said, is_placed, placed}
 use Rattle.script.proofs.cursor.Cursor.take_card.Goals as goal
 
-pub loop-number-init : goal.loop-number-init
-loop-number-init c = λ o says. says
-
 pub returns-then-not-is_blank : goal.returns-then-not-is_blank
 returns-then-not-is_blank c =
     let v = c.in-Some.ensures.value in

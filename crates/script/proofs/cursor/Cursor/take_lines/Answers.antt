@@ -1,4 +1,4 @@
-use Rattle.std.proofs.Common.{◌≡◌, ◌+◌, ◌-◌, [], ◌++◌, length, Err, sym, refl, ap, ◌∙◌, append_assoc, arith, length-append}
+use Rattle.std.proofs.Common.{◌≡◌, ◌+◌, ◌-◌, ◌++◌, Err, sym, ap, ◌∙◌, append_assoc}
 use Rattle.script.specs.Scripts.{fault, skipped}
 use Rattle.script.specs.Views.{rest_of}
 use Rattle.script.specs.declared.fault.Expected.TheVariants.{SheetLine}
@@ -6,11 +6,6 @@ use Rattle.script.specs.declared.fault.ScriptFault.{ScriptFault}
 use Rattle.script.proofs.Texts.{next_front, front_taken, skip_on, skip_off, skip_end}
 use Rattle.script.proofs.Turns.{err_only, taken_none, taken_some}
 use Rattle.script.proofs.cursor.Cursor.take_lines.Goals as goal
-
-pub loop-i-init : goal.loop-i-init
-loop-i-init c =
-    let z : c.args.count - 0 ≡ c.args.count = omega arith in
-    (ap (λ n. skipped n (rest_of c.args.self.now) c.args.self.now.line) z, ([], refl))
 
 pub returns-in_err-ok_or : goal.returns-in_err-ok_or
 returns-in_err-ok_or c =
@@ -33,14 +28,6 @@ loop-i-preserved c =
           ∙ c.loop-i.invariant.0,
       (so.0 ++ f.0, append_assoc so.0 f.0 (rest_of c.take_line.new.self) ∙ ap (λ r. so.0 ++ r) f.1 ∙ so.1),
     )
-
-pub slice_bounds-result-count : goal.slice_bounds-result-count
-slice_bounds-result-count c = let so = c.loop-i.invariant.1 in omega (arith, ap length so.1, length-append so.0 (rest_of c.loop-i.self))
-
-pub slice_bounds-result-length : goal.slice_bounds-result-length
-slice_bounds-result-length c =
-    let so = c.loop-i.invariant.1 in
-    omega (arith, ap length so.1, length-append so.0 (rest_of c.loop-i.self), ap length (front_taken so.0 (rest_of c.loop-i.self) (rest_of c.args.self.now) so.1))
 
 pub returns : goal.returns
 returns c =

@@ -49,6 +49,13 @@ pub trait Card {
     /// How many commands are held.
     fn count(&self) -> usize
         ensures { result ≡ length (held self.now) };
+
+    /// Answers `DEPTH`.
+    final fn capacity() -> usize
+        ensures { result ≡ DEPTH }
+    {
+        Self::DEPTH
+    }
 }
 
 /// Whether a command with this ticket is among these.

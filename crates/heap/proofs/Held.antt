@@ -1,7 +1,7 @@
 -- What the methods of the heap leave of the records that are held, from what the sifts do to them. Assumes nothing.
 use Rattle.std.proofs.Common.{◌≡◌, ℕ, suc, ◌+◌, ◌<◌, ◌≤◌, min, Bool, true, false, List, [], ◌∷◌, ◌++◌, length, get_or, take, drop, set, Option, sym, refl, ap, ◌∙◌, subst, ⊎_elim, arith}
 use Rattle.std.specs.List.Sorted.{IsPermutation}
-use Rattle.std.proofs.lemmas.List.{length-set, length-drop, length-append, length-take, length-take-le, nil_from_length, take_at, take_all, take-append-le, take_more, take-take, get_or_read, get_or-take, get_or_default, set_split, drop_all}
+use Rattle.std.proofs.lemmas.List.{length-set, length-drop, length-append, length-take-le, take_at, take_all, take-append-le, take_more, take-take, get_or_read, get_or-take, get_or_default, set_split, drop_all}
 use Rattle.std.proofs.lemmas.List.Sorted.{IsPermutation-sym, IsPermutation-trans, IsPermutation-cons, IsPermutation-swap, IsPermutation-to_front, length_permutation}
 use Rattle.std.proofs.lemmas.Bool.{cases_lt}
 use Rattle.std.specs.List.{slice_get}
@@ -14,11 +14,8 @@ take_min n xs = ⊎_elim
     (λ l. take_all n xs l ∙ sym (take_all (min n (length xs)) xs (omega arith)))
     (cases_lt n (length xs))
 
-pub take_none : {X : Type 0} (n : ℕ) (xs : List X) → min n (length xs) ≤ 0 → take n xs ≡ []
-take_none n xs l = nil_from_length (take n xs) (omega (arith, length-take n xs))
-
 -- x in the place `at`, for the record that stands there
-trades : {X : Type 0} (xs : List X) (at : ℕ) (x d : X) → at < length xs → IsPermutation (x ∷ xs) (get_or xs at d ∷ set xs at x)
+pub trades : {X : Type 0} (xs : List X) (at : ℕ) (x d : X) → at < length xs → IsPermutation (x ∷ xs) (get_or xs at d ∷ set xs at x)
 trades xs at x d l =
     subst (λ y. IsPermutation (x ∷ xs) (y ∷ set xs at x)) (get_or_default xs at x d l)
     (IsPermutation-swap (x ∷ xs) (get_or xs at x ∷ set xs at x) 0 (suc at) (omega arith) (omega (arith, l)) refl)

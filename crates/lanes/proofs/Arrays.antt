@@ -1,6 +1,6 @@
 -- What a lane of the eight has, and what a change of one leaves. Assumes nothing.
-use Rattle.std.proofs.Common.{◌≡◌, ℕ, zero, suc, ◌<◌, ◌≤◌, Bool, true, false, cond, List, [], ◌∷◌, replicate, length, get_or, set, Some, None, Option, sym, refl, ap, ◌∙◌, arith}
-use Rattle.std.proofs.lemmas.List.{get_or-map, get_or_past, length-map, map-set, set-get_or}
+use Rattle.std.proofs.Common.{◌≡◌, ℕ, zero, suc, ◌<◌, Bool, true, false, cond, List, [], ◌∷◌, replicate, length, get_or, set, Some, None, Option, sym, refl, ap, ◌∙◌, arith}
+use Rattle.std.proofs.lemmas.List.{get_or-map, map-set, set-get_or}
 use Rattle.heap.specs.Sorting.{insert, Pops}
 use Rattle.lanes.specs.Records.{by_start}
 use Rattle.lanes.specs.Waits.{waits, lanes_in, PopsAt}
@@ -9,9 +9,6 @@ use Rattle.lanes.specs.declared.records.Request.{Request}
 
 pub lane_at_lem : (ls : List Lane) (i : ℕ) (d : Lane) → i < length ls → get_or (lanes_in ls) i [] ≡ waits (get_or ls i d)
 lane_at_lem ls i d l = get_or-map waits ls i d [] l
-
-pub lane_past : (ls : List Lane) (i : ℕ) → length ls ≤ i → get_or (lanes_in ls) i [] ≡ []
-lane_past ls i l = get_or_past (lanes_in ls) i [] (omega (arith, length-map ls waits))
 
 pub lane_set : (ls : List Lane) (i : ℕ) (l : Lane) (w : List Request) → waits l ≡ w → lanes_in (set ls i l) ≡ set (lanes_in ls) i w
 lane_set ls i l w e = map-set waits ls i l ∙ ap (set (lanes_in ls) i) e

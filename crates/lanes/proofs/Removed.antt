@@ -1,12 +1,14 @@
 -- A search by a number, and what a request that goes into the card or comes out of it leaves. Assumes nothing.
-use Rattle.std.proofs.Common.{◌≡◌, ℕ, ◌+◌, ◌<◌, ◌≤◌, Bool, true, false, cond, eqb, ltb, not, List, [], ◌∷◌, ◌++◌, length, get_or, Some, None, Option, is_some, Result, Ok, Err, IsOk, OnOk, OnErr, ◌↔◌, is_ok, sum_by, sym, refl, ap, ◌∙◌, subst, ⊎_elim, arith}
+use Rattle.std.proofs.Common.{◌≡◌, ℕ, ◌+◌, ◌<◌, ◌≤◌, Bool, true, false, cond, eqb, ltb, not, List, [], ◌∷◌, ◌++◌, length, get_or, set, Some, None, Option, is_some, Result, Ok, Err, IsOk, OnOk, OnErr, ◌↔◌, is_ok, sum_by, sym, refl, ap, ◌∙◌, subst, ⊎_elim, arith}
 use Rattle.std.specs.List.Sorted.{IsPermutation}
-use Rattle.std.specs.List.{position, position_or_len, swap_remove}
+use Rattle.std.specs.List.{position, position_or_len, refill}
+use Rattle.std.proofs.lemmas.List.{get_or_append_left, get_or_default, get_or_push, length_push, length-set, take_at}
 use Rattle.std.proofs.lemmas.List.Quantifiers.{position-Some}
-use Rattle.std.proofs.lemmas.List.Sorted.{IsPermutation-swap_remove, IsPermutation-to_front, sum_by-IsPermutation}
+use Rattle.std.proofs.lemmas.List.Sorted.{IsPermutation-to_front, IsPermutation-trans, sum_by-IsPermutation}
 use Rattle.std.proofs.lemmas.List.Sums.{sum_by-cons}
 use Rattle.std.proofs.lemmas.Bool.{both_ways, cases_lt, cond-true, cond-false, eq-eqb, eqb-true, le-ltb, lt-ltb}
 use Rattle.heap.specs.Sorting.{insert, sorted}
+use Rattle.heap.proofs.Held.{trades}
 use Rattle.heap.proofs.Sorting.{length-sorted, sorted-IsPermutation, sum_by-sorted}
 use Rattle.lanes.specs.Records.{by_ticket, ticket_is}
 use Rattle.lanes.specs.Table.{Removes}
@@ -49,12 +51,28 @@ stored items (Err a) b old new x e v o f =
       after = ap (λ v. sorted by_ticket (items v)) f ∙ sym (ap (λ c. cond c (insert by_ticket x (sorted by_ticket xs)) (sorted by_ticket xs)) e);
     }
 
-pub removes : (xs ys : List Request) (i t : ℕ) (x : Request) → position (λ r. eqb r.ticket t) xs ≡ Some i → x ≡ get_or xs i x → ys ≡ swap_remove xs i x → Removes t (sorted by_ticket xs) (Some x) (sorted by_ticket ys)
-removes xs ys i t x p is e =
+removes : (xs ys : List Request) (i t : ℕ) (x : Request) → position (λ r. eqb r.ticket t) xs ≡ Some i → x ≡ get_or xs i x → IsPermutation xs (x ∷ ys) → Removes t (sorted by_ticket xs) (Some x) (sorted by_ticket ys)
+removes xs ys i t x p is h =
     let found = position-Some (λ (r : Request). eqb r.ticket t) xs i x p in
-    let ticket : x.ticket ≡ t = ap (λ (r : Request). r.ticket) is ∙ eqb-true _ t found.1 in
-    let h = subst (λ v. IsPermutation xs (x ∷ v)) (sym e) (IsPermutation-swap_remove xs i x found.0 is) in (
+    let ticket : x.ticket ≡ t = ap (λ (r : Request). r.ticket) is ∙ eqb-true _ t found.1 in (
       ticket,
       sym (sorted-IsPermutation by_ticket told_by_ticket xs (x ∷ ys) h),
       λ one. omega (arith, one, sum_by-sorted by_ticket (ticket_is t) xs, sum_by-sorted by_ticket (ticket_is t) ys, sum_by-IsPermutation (ticket_is t) xs (x ∷ ys) h, sum_by-cons (ticket_is t) x ys, cond-true {A = ℕ} (eqb x.ticket t) 1 0 (eq-eqb x.ticket t ticket)),
     )
+
+-- the last, x, leaves
+pub removes_last : (xs ys : List Request) (i t : ℕ) (x : Request) → position (λ r. eqb r.ticket t) xs ≡ Some i → xs ≡ ys ++ x ∷ [] → length ys ≤ i → Removes t (sorted by_ticket xs) (Some x) (sorted by_ticket ys)
+removes_last xs ys i t x p e b =
+    let found = position-Some (λ (r : Request). eqb r.ticket t) xs i x p in
+    let long : length xs ≡ length ys + 1 = ap length e ∙ length_push ys x in
+    removes xs ys i t x p (sym (ap (λ v. get_or v i x) e ∙ get_or_push ys x x i (omega (arith, b, found.0)))) (subst (λ v. IsPermutation v (x ∷ ys)) (sym e) (IsPermutation-to_front ys x))
+
+-- the last, y, comes into the place of the one that leaves; vs are the others, as they are lent
+pub removes_inner : (xs ys vs : List Request) (i t : ℕ) (y d : Request) → position (λ r. eqb r.ticket t) xs ≡ Some i → xs ≡ ys ++ y ∷ [] → vs ≡ ys → i < length ys → Removes t (sorted by_ticket xs) (Some (get_or vs i d)) (sorted by_ticket (refill (length ys) ys (set vs i y)))
+removes_inner xs ys vs i t y d p e lent b =
+    let x = get_or ys i d in
+    let left : refill (length ys) ys (set ys i y) ≡ set ys i y = take_at (set ys i y) _ (length ys) (length-set ys i y) in
+    let read : x ≡ get_or xs i x = get_or_default ys i d x b ∙ sym (ap (λ v. get_or v i x) e ∙ get_or_append_left ys (y ∷ []) x i b) in
+    let h : IsPermutation xs (x ∷ set ys i y) = IsPermutation-trans _ _ _ (subst (λ v. IsPermutation v (y ∷ ys)) (sym e) (IsPermutation-to_front ys y)) (trades ys i y d b) in
+    subst (λ ws. Removes t (sorted by_ticket xs) (Some (get_or ws i d)) (sorted by_ticket (refill (length ys) ys (set ws i y)))) (sym lent)
+    (subst (λ ws. Removes t (sorted by_ticket xs) (Some x) (sorted by_ticket ws)) (sym left) (removes xs (set ys i y) i t x p read h))

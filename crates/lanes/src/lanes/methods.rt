@@ -54,6 +54,7 @@ impl Lanes {
         ensures answer { result ≡ has_room i (lanes_of self.old) }
         ensures after { lanes_of self.new ≡ (if result then slice_set (lanes_of self.old) i (insert by_start x (slice_index_or (lanes_of self.old) i [])) else lanes_of self.old) }
     {
+        // tested, and not by `get_mut`, of which the check does not tell what it leaves in the array
         if i >= LANES {
             return false;
         }
@@ -72,6 +73,7 @@ impl Lanes {
     pub fn pop(&mut self, i: usize) -> Option<Request>
         ensures { PopsAt i (lanes_of self.old) result (lanes_of self.new) }
     {
+        // as in `push`
         if i >= LANES {
             return None;
         }

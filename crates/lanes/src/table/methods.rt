@@ -42,11 +42,19 @@ impl InCard {
             .position(|request| request.ticket == ticket)
     }
 
-    // The request with the ticket, which leaves; the last comes into its place.
+    // The request with the ticket, which leaves; the last comes into its place. Written out, since `swap_remove` writes both places and
+    // then a blank: 5 instructions more for a request that enters and leaves.
     pub fn remove(&mut self, ticket: u32) -> Option<Request>
         ensures { Removes ticket (in_card_of self.old) result (in_card_of self.new) }
     {
         let i = self.place(ticket)?;
-        Some(self.requests.swap_remove(i))
+        let last = self.requests.pop()?;
+        if i >= self.requests.len() {
+            return Some(last);
+        }
+        let requests = self.requests.as_mut_slice();
+        let gone = requests[i];
+        requests[i] = last;
+        Some(gone)
     }
 }

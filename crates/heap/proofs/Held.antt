@@ -15,7 +15,7 @@ take_min n xs = ⊎_elim
     (cases_lt n (length xs))
 
 -- x in the place `at`, for the record that stands there
-pub trades : {X : Type 0} (xs : List X) (at : ℕ) (x d : X) → at < length xs → IsPermutation (x ∷ xs) (get_or xs at d ∷ set xs at x)
+trades : {X : Type 0} (xs : List X) (at : ℕ) (x d : X) → at < length xs → IsPermutation (x ∷ xs) (get_or xs at d ∷ set xs at x)
 trades xs at x d l =
     subst (λ y. IsPermutation (x ∷ xs) (y ∷ set xs at x)) (get_or_default xs at x d l)
     (IsPermutation-swap (x ∷ xs) (get_or xs at x ∷ set xs at x) 0 (suc at) (omega arith) (omega (arith, l)) refl)

@@ -1,5 +1,5 @@
 -- What callers may use of the lanes and of the table. Assumes nothing.
-use Rattle.std.proofs.Common.{◌≡◌, List, [], ◌∷◌, length, ◌∙◌}
+use Rattle.std.proofs.Common.{◌≡◌, List, [], ◌∷◌, length, take, ◌∙◌}
 use Rattle.std.specs.List.{AllByRecursion}
 use Rattle.std.proofs.lemmas.List.{length-map}
 use Rattle.heap.proofs.Sorting.{Ordered, Ordered-sorted}
@@ -25,4 +25,4 @@ lanes_ordered l = go l.lanes
 
 -- in order of tickets
 pub in_card_ordered : (c : InCard) → Ordered by_ticket (in_card_of c)
-in_card_ordered c = Ordered-sorted by_ticket c.requests.items
+in_card_ordered c = Ordered-sorted by_ticket (take c.count c.slots)

@@ -1,15 +1,12 @@
 -- A search by a number, and what a request that goes into the card or comes out of it leaves. Assumes nothing.
-use Rattle.std.proofs.Common.{◌≡◌, ℕ, ◌+◌, ◌<◌, ◌≤◌, Bool, true, false, cond, eqb, ltb, not, List, [], ◌∷◌, ◌++◌, length, get_or, set, Some, None, Option, is_some, Result, Ok, Err, IsOk, OnOk, OnErr, ◌↔◌, is_ok, sum_by, sym, refl, ap, ◌∙◌, subst, ⊎_elim, arith}
-use Rattle.std.specs.List.Sorted.{IsPermutation}
-use Rattle.std.specs.List.{position, position_or_len, refill}
-use Rattle.std.proofs.lemmas.List.{get_or_append_left, get_or_default, get_or_push, length_push, length-set, take_at}
-use Rattle.std.proofs.lemmas.List.Quantifiers.{position-Some}
-use Rattle.std.proofs.lemmas.List.Sorted.{IsPermutation-to_front, IsPermutation-trans, sum_by-IsPermutation}
-use Rattle.std.proofs.lemmas.List.Sums.{sum_by-cons}
-use Rattle.std.proofs.lemmas.Bool.{both_ways, cases_lt, cond-true, cond-false, eq-eqb, eqb-true, le-ltb, lt-ltb}
+use Rattle.std.proofs.Common.{◌≡◌, ℕ, zero, suc, ◌+◌, ◌<◌, ◌≤◌, Bool, true, false, cond, eqb, ltb, not, List, [], ◌∷◌, ◌++◌, length, get_or, take, set, Some, None, Option, is_some, sum_by, sym, refl, ap, ◌∙◌, ⊎_elim, arith}
+use Rattle.std.specs.List.{position, position_or_len}
+use Rattle.std.proofs.lemmas.List.{get_or-take, length-take, length-take-le, take_more_set, take-set}
+use Rattle.std.proofs.lemmas.List.Sorted.{IsPermutation-to_front}
+use Rattle.std.proofs.lemmas.List.Sums.{sum_by-cons, sum_by_more, sum_by-set}
+use Rattle.std.proofs.lemmas.Bool.{both_ways, cases_eq, cases_lt, cond-true, cond-false, eq-eqb, lt-ltb}
 use Rattle.heap.specs.Sorting.{insert, sorted}
-use Rattle.heap.proofs.Held.{trades}
-use Rattle.heap.proofs.Sorting.{length-sorted, sorted-IsPermutation, sum_by-sorted}
+use Rattle.heap.proofs.Sorting.{length-sorted, Ordered-sorted, same_ordered, sorted-IsPermutation, sum_by-sorted}
 use Rattle.lanes.specs.Records.{by_ticket, ticket_is}
 use Rattle.lanes.specs.Table.{Removes}
 use Rattle.lanes.specs.declared.records.Request.{Request}
@@ -31,48 +28,38 @@ module _ {X : Type 0} (p : X → Bool) where
       (λ l. all_passed xs l)
       (cases_lt (position_or_len p xs) (length xs))
 
-pub record Stored (xs : List Request) (x : Request) (b : Bool) (ys : List Request) : Type 0 where
-  pub answer : b ≡ ltb (length (sorted by_ticket xs)) 32
-  pub after : sorted by_ticket ys ≡ cond b (insert by_ticket x (sorted by_ticket xs)) (sorted by_ticket xs)
+-- as many are in order as are held
+pub length_held : (xs : List Request) (n : ℕ) → length xs ≡ 32 → n ≤ 32 → length (sorted by_ticket (take n xs)) ≡ n
+length_held xs n e l = omega (arith, length-sorted by_ticket (take n xs), length-take n xs)
 
-pub stored : {A E V : Type 0} (items : V → List Request) (r : Result A E) (b : Bool) (old new : V) (x : Request) → b ≡ is_ok r → (IsOk r ↔ (length (items old) < 32)) → OnOk r (items new ≡ items old ++ x ∷ []) → OnErr r (new ≡ old) → Stored (items old) x b (items new)
-stored items (Ok a) b old new x e v o f =
-    let xs = items old in
-    record {
-      answer = e ∙ sym (lt-ltb _ 32 (omega (arith, v.0 refl, length-sorted by_ticket xs)));
-      after = ap (sorted by_ticket) o
-          ∙ sym (sorted-IsPermutation by_ticket told_by_ticket (xs ++ x ∷ []) (x ∷ xs) (IsPermutation-to_front xs x))
-          ∙ sym (ap (λ c. cond c (insert by_ticket x (sorted by_ticket xs)) (sorted by_ticket xs)) e);
-    }
-stored items (Err a) b old new x e v o f =
-    let xs = items old in
-    record {
-      answer = e ∙ sym (le-ltb _ 32 (⊎_elim (λ l. absurd (both_ways _ refl (v.1 l))) (λ l. omega (arith, l, length-sorted by_ticket xs)) (cases_lt (length xs) 32)));
-      after = ap (λ v. sorted by_ticket (items v)) f ∙ sym (ap (λ c. cond c (insert by_ticket x (sorted by_ticket xs)) (sorted by_ticket xs)) e);
-    }
+pub stored : (xs : List Request) (n : ℕ) (x : Request) → n < length xs → sorted by_ticket (take (n + 1) (set xs n x)) ≡ insert by_ticket x (sorted by_ticket (take n xs))
+stored xs n x l =
+    ap (sorted by_ticket) (take_more_set xs n x l)
+    ∙ sym (sorted-IsPermutation by_ticket told_by_ticket (take n xs ++ x ∷ []) (x ∷ take n xs) (IsPermutation-to_front (take n xs) x))
 
-removes : (xs ys : List Request) (i t : ℕ) (x : Request) → position (λ r. eqb r.ticket t) xs ≡ Some i → x ≡ get_or xs i x → IsPermutation xs (x ∷ ys) → Removes t (sorted by_ticket xs) (Some x) (sorted by_ticket ys)
-removes xs ys i t x p is h =
-    let found = position-Some (λ (r : Request). eqb r.ticket t) xs i x p in
-    let ticket : x.ticket ≡ t = ap (λ (r : Request). r.ticket) is ∙ eqb-true _ t found.1 in (
-      ticket,
-      sym (sorted-IsPermutation by_ticket told_by_ticket xs (x ∷ ys) h),
-      λ one. omega (arith, one, sum_by-sorted by_ticket (ticket_is t) xs, sum_by-sorted by_ticket (ticket_is t) ys, sum_by-IsPermutation (ticket_is t) xs (x ∷ ys) h, sum_by-cons (ticket_is t) x ys, cond-true {A = ℕ} (eqb x.ticket t) 1 0 (eq-eqb x.ticket t ticket)),
+take-set_under : (m : ℕ) (xs : List Request) (i : ℕ) (a : Request) → i < m → take m (set xs i a) ≡ set (take m xs) i a
+take-set_under zero xs i a l = absurd (omega (arith, l))
+take-set_under (suc m) [] i a l = refl
+take-set_under (suc m) (x ∷ xs) zero a l = refl
+take-set_under (suc m) (x ∷ xs) (suc i) a l = ap (λ ys. x ∷ ys) (take-set_under m xs i a (omega (arith, l)))
+
+-- the last in the place of the one at i
+filled : (g : Request → ℕ) (xs : List Request) (n m i : ℕ) (d : Request) → n ≡ m + 1 → n ≤ length xs → i < n → sum_by g (take n xs) ≡ g (get_or xs i d) + sum_by g (take m (set xs i (get_or xs m d)))
+filled g xs n m i d e l b =
+    let y = get_or xs m d in
+    let whole : sum_by g (take n xs) ≡ sum_by g (take m xs) + g y = ap (λ k. sum_by g (take k xs)) e ∙ sum_by_more g xs m d (omega arith) in
+    ⊎_elim
+    (λ (same : i ≡ m). omega (arith, whole, ap (λ k. g (get_or xs k d)) same, ap (sum_by g) (ap (λ k. take m (set xs k y)) same ∙ take-set xs m y)))
+    (λ other. omega (arith, whole, ap (sum_by g) (take-set_under m xs i y (omega (arith, other))), sum_by-set g (take m xs) i y d (omega (arith, other, length-take-le m xs (omega arith))), ap g (get_or-take m xs i d (omega (arith, other)))))
+    (cases_eq i m)
+
+pub removes : (xs : List Request) (n m i t : ℕ) (d : Request) → n ≡ m + 1 → n ≤ length xs → i < n → (get_or xs i d).ticket ≡ t → Removes t (sorted by_ticket (take n xs)) (Some (get_or xs i d)) (sorted by_ticket (take m (set xs i (get_or xs m d))))
+removes xs n m i t d e l b s =
+    let x = get_or xs i d in
+    let rest = take m (set xs i (get_or xs m d)) in
+    let all : (g : Request → ℕ) → sum_by g (take n xs) ≡ g x + sum_by g rest = λ g. filled g xs n m i d e l b in (
+      s,
+      same_ordered by_ticket told_by_ticket (sorted by_ticket (take n xs)) (sorted by_ticket (x ∷ rest)) (Ordered-sorted by_ticket (take n xs)) (Ordered-sorted by_ticket (x ∷ rest))
+          (λ g. omega (arith, sum_by-sorted by_ticket g (take n xs), all g, sum_by-sorted by_ticket g (x ∷ rest), sum_by-cons g x rest)),
+      λ one. omega (arith, one, sum_by-sorted by_ticket (ticket_is t) (take n xs), sum_by-sorted by_ticket (ticket_is t) rest, all (ticket_is t), cond-true {A = ℕ} (eqb x.ticket t) 1 0 (eq-eqb x.ticket t s)),
     )
-
--- the last, x, leaves
-pub removes_last : (xs ys : List Request) (i t : ℕ) (x : Request) → position (λ r. eqb r.ticket t) xs ≡ Some i → xs ≡ ys ++ x ∷ [] → length ys ≤ i → Removes t (sorted by_ticket xs) (Some x) (sorted by_ticket ys)
-removes_last xs ys i t x p e b =
-    let found = position-Some (λ (r : Request). eqb r.ticket t) xs i x p in
-    let long : length xs ≡ length ys + 1 = ap length e ∙ length_push ys x in
-    removes xs ys i t x p (sym (ap (λ v. get_or v i x) e ∙ get_or_push ys x x i (omega (arith, b, found.0)))) (subst (λ v. IsPermutation v (x ∷ ys)) (sym e) (IsPermutation-to_front ys x))
-
--- the last, y, comes into the place of the one that leaves; vs are the others, as they are lent
-pub removes_inner : (xs ys vs : List Request) (i t : ℕ) (y d : Request) → position (λ r. eqb r.ticket t) xs ≡ Some i → xs ≡ ys ++ y ∷ [] → vs ≡ ys → i < length ys → Removes t (sorted by_ticket xs) (Some (get_or vs i d)) (sorted by_ticket (refill (length ys) ys (set vs i y)))
-removes_inner xs ys vs i t y d p e lent b =
-    let x = get_or ys i d in
-    let left : refill (length ys) ys (set ys i y) ≡ set ys i y = take_at (set ys i y) _ (length ys) (length-set ys i y) in
-    let read : x ≡ get_or xs i x = get_or_default ys i d x b ∙ sym (ap (λ v. get_or v i x) e ∙ get_or_append_left ys (y ∷ []) x i b) in
-    let h : IsPermutation xs (x ∷ set ys i y) = IsPermutation-trans _ _ _ (subst (λ v. IsPermutation v (y ∷ ys)) (sym e) (IsPermutation-to_front ys y)) (trades ys i y d b) in
-    subst (λ ws. Removes t (sorted by_ticket xs) (Some (get_or ws i d)) (sorted by_ticket (refill (length ys) ys (set ws i y)))) (sym lent)
-    (subst (λ ws. Removes t (sorted by_ticket xs) (Some x) (sorted by_ticket ws)) (sym left) (removes xs (set ys i y) i t x p read h))

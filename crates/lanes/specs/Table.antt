@@ -1,5 +1,5 @@
 -- What is in the card, in the order of tickets.
-use Rattle.std.specs.Prelude.{◌≡◌, ℕ, ◌≤◌, List, Some, None, sum_by, Option}
+use Rattle.std.specs.Prelude.{◌≡◌, ℕ, ◌≤◌, List, take, Some, None, sum_by, Option}
 use Rattle.heap.specs.Sorting.{insert, sorted}
 use Rattle.lanes.specs.Records.{by_ticket, ticket_is}
 use Rattle.lanes.specs.declared.records.Request.{Request}
@@ -7,7 +7,7 @@ use Rattle.lanes.specs.declared.table.InCard.{InCard}
 
 -- the requests in the card
 abbrev pub in_card_of : InCard → List Request
-in_card_of c = sorted by_ticket c.requests.items
+in_card_of c = sorted by_ticket (take c.count c.slots)
 
 -- a request with the ticket t leaves and is the answer; where tickets differ none with t is left; without one nothing changes
 abbrev pub Removes : ℕ → List Request → Option Request → List Request → Type 0

@@ -1,7 +1,6 @@
-use Rattle.std.proofs.Common.{sym, ◌∙◌}
-use Rattle.heap.proofs.Sorting.{length-sorted}
-use Rattle.lanes.specs.Records.{by_ticket}
+use Rattle.std.proofs.Common.{sym}
+use Rattle.lanes.proofs.Removed.{length_held}
 use Rattle.lanes.proofs.table.InCard.len.Goals as goal
 
 pub returns : goal.returns
-returns c = c.len.ensures.value ∙ sym (length-sorted by_ticket c.args.self.now.requests.items)
+returns c = let t = c.args.self.now in sym (length_held t.slots t.count t.sized t.within)

@@ -1,15 +1,13 @@
-use Rattle.arrayvec.specs.ArrayVec.{ArrayVec}
-use Rattle.lanes.specs.declared.records.Request.{Request}
-use Rattle.lanes.proofs.Removed.{Stored, stored}
+use Rattle.std.proofs.Common.{sym, arith}
+use Rattle.std.proofs.lemmas.Bool.{le-ltb, lt-ltb}
+use Rattle.lanes.proofs.Removed.{length_held, stored}
 use Rattle.lanes.proofs.table.InCard.push.Goals as goal
 
-entered : (c : goal.After-is_ok) → Stored c.args.self.now.requests.items c.args.x c.is_ok.result c.try_push.new.self.items
-entered c =
-    let push = c.try_push.ensures in
-    stored (λ (v : ArrayVec Request). v.items) c.try_push.result c.is_ok.result c.args.self.now.requests c.try_push.new.self c.args.x c.is_ok.ensures.value push.variant push.ok push.err
+pub returns-then-self-ge-MOST-clause-answer : goal.returns-then-self-ge-MOST-clause-answer
+returns-then-self-ge-MOST-clause-answer c = let t = c.args.self.now in sym (le-ltb _ 32 (omega (arith, length_held t.slots t.count t.sized t.within)))
 
 pub returns-clause-answer : goal.returns-clause-answer
-returns-clause-answer c = (entered c).answer
+returns-clause-answer c = let t = c.args.self.now in sym (lt-ltb _ 32 (omega (arith, length_held t.slots t.count t.sized t.within)))
 
 pub returns-clause-after : goal.returns-clause-after
-returns-clause-after c = (entered c).after
+returns-clause-after c = let t = c.args.self.now in stored t.slots t.count c.args.x (omega (arith, t.sized))

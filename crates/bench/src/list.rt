@@ -12,7 +12,7 @@ use std::alloc::Global;
 pub(crate) const TEXT: &[u8] =
     b"F 16\n1 24\n2 40\n3 64\n5 100\n8 160\n10 200\n10 64\n16 320\n20 256\n25 500\n32 512\n40 64\n50 1024\n64 1280\n100 2048\n100 256\nL 8\n32\n32\n32\n32\n32\n32\n32\n32\nP 2\nD 16\nT 6000\n";
 
-// One call in six bytes: fly's own holds a sheet, and a list of those would fill the cache that is measured here.
+// One call in a few bytes: fly's own holds a sheet, and a list of those would be some twenty times as long.
 #[derive(Clone, Copy)]
 pub(crate) enum Call {
     Arrive { flow: u8, lane: u8, length: u16 },

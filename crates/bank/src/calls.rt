@@ -1,9 +1,9 @@
 // What the bank card does when it is called.
-ghost use Rattle.std.specs.Prelude.{◌≡◌, ◌%◌, ◌<◌, [], map, length, replicate, IfSome};
+ghost use Rattle.std.specs.Prelude.{◌≡◌, ◌%◌, ◌<◌, ◌≤◌, [], map, length, replicate, IfSome};
 ghost use Rattle.card.specs.Commands.{Finished, Submitted};
 ghost use Rattle.bank.specs.Jobs.{commands_all, lowered};
 ghost use Rattle.bank.specs.Laws.{Laws};
-ghost use Rattle.bank.specs.Rules.{finish_rule, first_ready, submit_rule};
+ghost use Rattle.bank.specs.Rules.{Placed, finish_rule, first_ready, submit_rule};
 
 use crate::BankCard;
 use crate::bank::Bank;
@@ -19,6 +19,15 @@ impl BankCard {
             banks: array::from_fn(|_| Bank::new()),
             count: 0,
         }
+    }
+
+    /// What every bank card keeps: four banks, in each only tickets of its own, and in all at most 32 commands. The code does nothing.
+    pub fn in_order(&self)
+        ensures four { length self.now ≡ 4 }
+        ensures placed { Placed self.now }
+        ensures few { length (commands_all self.now) ≤ 32 }
+    {
+        let _ = &self.count;
     }
 }
 

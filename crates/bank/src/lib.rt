@@ -19,7 +19,7 @@ pub struct BankCard {
 
 // Clauses see the jobs of each bank, oldest first.
 impl Model for BankCard {
-    ghost use Rattle.std.specs.Prelude.{◌≡◌, List, length};
+    ghost use Rattle.std.specs.Prelude.{◌≡◌, ◌≤◌, List, length};
     ghost use Rattle.bank.specs.Jobs.{Job, commands_all};
     ghost use Rattle.bank.specs.Rules.{Placed};
 
@@ -27,5 +27,5 @@ impl Model for BankCard {
 
     ghost view = { λ c. c.banks };
 
-    ghost invariant = { λ c. (c.count ≡ length (commands_all c.banks)) × Placed c.banks };
+    ghost invariant = { λ c. (c.count ≡ length (commands_all c.banks)) × Placed c.banks × (c.count ≤ 32) × (length c.banks ≡ 4) };
 }

@@ -1,5 +1,5 @@
 // A card that finishes the newest command first.
-ghost use Rattle.std.specs.Prelude.{◌≡◌, [], ◌∷◌, ◌++◌, is_ok, if◌then◌else◌};
+ghost use Rattle.std.specs.Prelude.{◌≡◌, ◌≤◌, length, [], ◌∷◌, ◌++◌, is_ok, if◌then◌else◌};
 ghost use Rattle.card.specs.Commands.{Submitted};
 ghost use Rattle.cards_for_tests.specs.Choices.{Newest};
 
@@ -51,7 +51,10 @@ impl Card for NewestCard {
         Some((newest.ticket, newest.ticket.to_le_bytes()[0]))
     }
 
-    fn count(&self) -> usize {
+    fn count(&self) -> usize
+        ensures held { result ≡ length self.now.commands.items }
+        ensures within { result ≤ 32 }
+    {
         self.commands.len()
     }
 }

@@ -21,7 +21,7 @@ pub(crate) fn push<T: Ord + Copy>(items: &mut [T], len: &mut usize, x: T) -> boo
     true
 }
 
-// Gives out the record in the place `at`.
+// Gives out the record in the place `at`. The bound is asked first, since the place is of use only where the removal goes on.
 pub(crate) fn remove<T: Ord + Copy>(items: &mut [T], len: &mut usize, at: usize) -> Option<T>
     ensures { Removed (upto_by T.cmp) items.old len.old at result items.new len.new }
 {
@@ -34,7 +34,7 @@ pub(crate) fn remove<T: Ord + Copy>(items: &mut [T], len: &mut usize, at: usize)
     Some(gone)
 }
 
-// Puts `x` in for the record in the place `at`, which is given out.
+// Puts `x` in for the record in the place `at`, which is given out. The place is written after, so its bound is asked once for both.
 pub(crate) fn replace<T: Ord + Copy>(items: &mut [T], len: usize, at: usize, x: T) -> Option<T>
     ensures { Replaced (upto_by T.cmp) items.old len at x result items.new len }
 {

@@ -1,5 +1,5 @@
 // A heap that owns its memory.
-ghost use Rattle.std.specs.Prelude.{◌≡◌, [], length};
+ghost use Rattle.std.specs.Prelude.{◌≡◌, ◌≤◌, [], length};
 ghost use Rattle.heap.specs.Fixed.{Enters, Leads, Leaves, Swaps};
 ghost use Rattle.heap.specs.Heaps.{Pushed, Removed, Replaced};
 ghost use Rattle.heap.specs.Order.{upto_by};
@@ -7,7 +7,8 @@ ghost use Rattle.heap.specs.Order.{upto_by};
 use crate::heap::{Heap, least};
 use std::marker::Model;
 
-// At most `N` records, heaped at all times. A contract sees those that are held, as they lie, the least first.
+// At most `N` records, heaped at all times. A contract sees those that are held, as they lie, the least first. The memory is an array
+// with a count, since it is what `Heap` borrows: a slice to its full length, of which a vector would lend the held part alone.
 #[derive(Drop)]
 pub struct FixedHeap<T: Ord, const N: usize> {
     slots: [T; N],
@@ -40,7 +41,8 @@ impl<T: Ord + Copy, const N: usize> FixedHeap<T, N> {
 
     // How many are held.
     pub fn len(&self) -> usize
-        ensures { result ≡ length self.now }
+        ensures count { result ≡ length self.now }
+        ensures within { result ≤ N }
     {
         self.count
     }
@@ -59,7 +61,7 @@ impl<T: Ord + Copy, const N: usize> FixedHeap<T, N> {
         least(&self.slots, self.count)
     }
 
-    // Takes `x` in, and tells whether there was room.
+    // Takes `x` in, and tells whether there was room, as a set's `insert` tells: a record is `Copy`, so a refusal has nothing to give back.
     pub fn push(&mut self, x: T) -> bool
         ensures { Enters N self.old x result self.new }
     {
@@ -88,8 +90,8 @@ impl<T: Ord + Copy, const N: usize> FixedHeap<T, N> {
     }
 }
 
-// The heap over memory that is lent to it. The memory and the count come apart: where the length of a lent array is a parameter, the check
-// does not tell what a struct around it leaves there.
+// The heap over memory that is lent to it, by which waiting requests and leads are kept. The memory and the count come apart: where the length
+// of a lent array is a parameter, the check does not tell what a struct around it leaves there.
 
 fn push_into<T: Ord + Copy>(items: &mut [T], len: &mut usize, x: T) -> bool
     ensures { Pushed (upto_by T.cmp) items.old len.old x result items.new len.new }

@@ -6,7 +6,7 @@ ghost use Rattle.heap.specs.Order.{upto_by};
 
 use crate::edits;
 
-// The first `len` of the items are held, or all of them where `len` is more. Each method keeps them heaped, so that the first is the
+// The memory and its count are the owner's, who lends both. The first `len` of the items are held, or all of them where `len` is more. Each method keeps them heaped, so that the first is the
 // least. That they are heaped is no fact of this type, since a ghost field beside a `&mut` is not covered, and since any memory may
 // be lent; it is one of `FixedHeap`.
 #[derive(Drop)]
@@ -31,7 +31,7 @@ impl<'a, T: Ord + Copy> Heap<'a, T> {
         (*self.len).min(self.items.len())
     }
 
-    // Takes `x` in, and tells whether there was room.
+    // Takes `x` in, and tells whether there was room, as a set's `insert` tells: a record is `Copy`, so a refusal has nothing to give back.
     pub fn push(&mut self, x: T) -> bool
         ensures lender { SameLoan self.old self.new }
         ensures pushed { Pushed (upto_by T.cmp) self.old.items.now self.old.len.now x result self.new.items.now self.new.len.now }

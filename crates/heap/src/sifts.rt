@@ -2,6 +2,7 @@
 //
 // A record is not swapped down or up: its place is left free (a hole, whatever it may still hold), other records move over it,
 // and the record is written once, where the hole ends. The clauses speak of the slice with the record in the hole.
+// A hole goes from parent to child or back, and not over the items in turn, so its steps are `while` loops.
 ghost use Rattle.std.specs.Prelude.{◌+◌, ◌*◌, ◌<◌, ◌≤◌, length, slice_set};
 ghost use Rattle.std.specs.List.Sorted.{IsPermutation};
 ghost use Rattle.heap.specs.Heaps.{Child, Free, Heaped, LeastChild, Lifted, Rising};

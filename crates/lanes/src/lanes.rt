@@ -11,6 +11,8 @@ mod methods;
 // How many lanes there are.
 pub(crate) const LANES: usize = 8;
 
+// What the lanes mean is told by `lanes_of`, and not by a model: `least_stands` and the laws of runs read of every `Lanes` what its fields keep,
+// which a model would hide. So with `waits` of a lane, `leads_of` of the leads and `in_card_of` of what is in the card.
 #[derive(Drop)]
 pub struct Lanes {
     lanes: [Lane; LANES],

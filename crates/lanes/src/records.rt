@@ -21,6 +21,7 @@ pub struct Request {
 }
 
 impl Request {
+    // The order as one answer, for who asks no more than that.
     pub fn at_or_before(&self, other: &Request) -> bool
         ensures { result ≡ request_upto self.now other.now }
     {
@@ -36,6 +37,7 @@ pub struct Lead {
 }
 
 impl Lead {
+    // The same of leads.
     pub fn at_or_before(&self, other: &Lead) -> bool
         ensures { result ≡ lead_upto self.now other.now }
     {

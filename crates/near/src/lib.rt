@@ -25,7 +25,8 @@ pub fn how_many(ready: u8) -> u32
     ready.count_ones()
 }
 
-// The nearest lane of the set by the row, and of several as near the lowest. The lanes are visited from the lowest up, so a later one has to be nearer.
+// The nearest lane of the set by the row, and of several as near the lowest. The lowest set bit is the lane that is visited, so a later one has to be nearer; a range
+// of all eight lanes with a filter would visit the others too.
 fn choose(row: [u8; 8], ready: u8) -> Option<u32>
     ensures { MatchOption result (ready ≡ 0) (λ k. Nearest row ready k) }
 {

@@ -1,7 +1,7 @@
 //! The queue card: depth 16, first in, first out.
 #![tactic(auto)]
 
-ghost use Rattle.std.specs.Prelude.{◌≡◌, []};
+ghost use Rattle.std.specs.Prelude.{◌≡◌, ◌≤◌, [], length};
 ghost use Rattle.card.specs.Commands.{Finished, Submitted};
 ghost use Rattle.queue.specs.Fifo.{Fifo};
 ghost use Rattle.queue.specs.Queues.{finish_rule, submit_rule};
@@ -58,7 +58,10 @@ impl Card for QueueCard {
         Some((oldest.ticket, 0))
     }
 
-    fn count(&self) -> usize {
+    fn count(&self) -> usize
+        ensures held { result ≡ length self.now.commands }
+        ensures within { result ≤ 16 }
+    {
         self.commands.len()
     }
 }

@@ -4,7 +4,7 @@ ghost use Rattle.std.specs.Prelude.{◌≡◌, ◌≤◌, ◌<◌, [], ◌∷◌
 use crate::build::OutOfRange;
 use std::alloc::AllocError;
 
-// The first `len` elements count.
+// The first `len` elements count, and `items_of` tells them; a model would have to give the free places back, since the list is copied.
 #[derive(Copy)]
 pub struct FixedList<T, const N: usize> {
     elements: [T; N],
@@ -13,8 +13,14 @@ pub struct FixedList<T, const N: usize> {
     ghost few: { len ≤ N },
 }
 
-// A copy is a clone; none can be derived beside a ghost field.
+// A copy is a clone. It cannot be derived for a generic struct with a ghost field.
 impl<T: Copy, const N: usize> Clone for FixedList<T, N> {
+    ghost use Rattle.std.specs.Prelude.{⊤};
+
+    ghost is_clone = { λ x y. y ≡ x };
+
+    ghost is_infallible = { λ _. ⊤ };
+
     fn clone(&self) -> Result<FixedList<T, N>, AllocError> {
         Ok(*self)
     }
@@ -58,7 +64,7 @@ impl<T: Copy + Default, const N: usize> FixedList<T, N> {
     }
 }
 
-// What stands in the places past the count is not compared.
+// What stands in the places past the count is not compared, so this is not the derived `==` of the fields.
 impl<T: PartialEq, const N: usize> PartialEq for FixedList<T, N> {
     ghost use Rattle.sheet.specs.Listed.{items_of};
     ghost use Rattle.std.specs.Cmp.Lexicographic.{pointwise};

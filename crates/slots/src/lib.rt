@@ -66,6 +66,15 @@ impl Slots {
     }
 }
 
+impl Slots {
+    /// What slots keep at all times: no more are out than there are. The code does nothing.
+    pub fn in_limit(&self)
+        ensures { out self.now ≤ self.now.limit }
+    {
+        let _ = &self.limit;
+    }
+}
+
 impl Grant {
     /// Turns the slot into that of a request that was sent: as many are out as before. Where no grant is out nothing changes.
     pub fn spend(self, slots: &mut Slots)

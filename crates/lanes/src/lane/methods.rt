@@ -1,4 +1,4 @@
-ghost use Rattle.std.specs.Prelude.{◌≡◌, [], length, if◌then◌else◌, nat_lt};
+ghost use Rattle.std.specs.Prelude.{◌≡◌, ◌≤◌, [], length, if◌then◌else◌, nat_lt};
 ghost use Rattle.heap.specs.Sorting.{insert, head_of, Pops};
 ghost use Rattle.lanes.specs.Records.{by_start};
 ghost use Rattle.lanes.specs.Waits.{waits};
@@ -18,7 +18,8 @@ impl Lane {
 
     // How many wait.
     pub(crate) fn len(&self) -> usize
-        ensures { result ≡ length (waits self.now) }
+        ensures count { result ≡ length (waits self.now) }
+        ensures within { result ≤ 32 }
     {
         self.requests.len()
     }

@@ -1,4 +1,4 @@
-ghost use Rattle.std.specs.Prelude.{◌≡◌, [], length, replicate, if◌then◌else◌, nat_lt, slice_index_or, slice_set};
+ghost use Rattle.std.specs.Prelude.{◌≡◌, ◌≤◌, [], length, replicate, if◌then◌else◌, nat_lt, slice_index_or, slice_set};
 ghost use Rattle.heap.specs.Sorting.{insert, head_of};
 ghost use Rattle.lanes.specs.Lanes.{has_room, lanes_of};
 ghost use Rattle.lanes.specs.Records.{by_start};
@@ -37,7 +37,8 @@ impl Lanes {
 
     // How many wait in lane i; 0 where there is no such lane.
     pub fn len(&self, i: usize) -> usize
-        ensures { result ≡ length (slice_index_or (lanes_of self.now) i []) }
+        ensures count { result ≡ length (slice_index_or (lanes_of self.now) i []) }
+        ensures within { result ≤ 32 }
     {
         self.lanes.get(i).map_or(0, |lane| lane.len())
     }
@@ -49,7 +50,7 @@ impl Lanes {
         self.lanes.get(i)?.lead()
     }
 
-    // Takes a request into lane i, and tells whether there is such a lane and it had room.
+    // Takes a request into lane i, and tells whether there is such a lane and it had room, as a set's `insert` tells.
     pub fn push(&mut self, i: usize, x: Request) -> bool
         ensures answer { result ≡ has_room i (lanes_of self.old) }
         ensures after { lanes_of self.new ≡ (if result then slice_set (lanes_of self.old) i (insert by_start x (slice_index_or (lanes_of self.old) i [])) else lanes_of self.old) }

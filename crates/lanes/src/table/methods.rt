@@ -1,4 +1,4 @@
-ghost use Rattle.std.specs.Prelude.{◌≡◌, ◌<◌, [], length, take, if◌then◌else◌, nat_lt, ◌==◌};
+ghost use Rattle.std.specs.Prelude.{◌≡◌, ◌<◌, ◌≤◌, [], length, take, if◌then◌else◌, nat_lt, ◌==◌};
 ghost use Rattle.std.specs.List.{position};
 ghost use Rattle.heap.specs.Sorting.{insert};
 ghost use Rattle.lanes.specs.Records.{by_ticket};
@@ -19,12 +19,13 @@ impl InCard {
 
     // How many are in the card.
     pub fn len(&self) -> usize
-        ensures { result ≡ length (in_card_of self.now) }
+        ensures count { result ≡ length (in_card_of self.now) }
+        ensures within { result ≤ 32 }
     {
         self.count
     }
 
-    // Takes a request in, and tells whether there was room.
+    // Takes a request in, and tells whether there was room, as a set's `insert` tells.
     pub fn push(&mut self, x: Request) -> bool
         ensures answer { result ≡ nat_lt (length (in_card_of self.old)) 32 }
         ensures after { in_card_of self.new ≡ (if result then insert by_ticket x (in_card_of self.old) else in_card_of self.old) }

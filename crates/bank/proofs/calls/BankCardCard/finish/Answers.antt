@@ -1,4 +1,4 @@
-use Rattle.std.proofs.Common.{◌-◌, None, set, sym, subst, rules}
+use Rattle.std.proofs.Common.{◌-◌, None, set, sym, subst, rules, arith}
 use Rattle.bank.proofs.Bagged.{Sound}
 use Rattle.bank.proofs.Finishing.{Finishes, sound_lowered, finds_none, some_counted, finds_one}
 use Rattle.bank.proofs.calls.BankCardCard.finish.Goals as goal
@@ -21,7 +21,7 @@ one c =
     (subst (λ banks. Finishes banks c.pop.result after) c.self.view_is did.0, did.1)
 
 pub invariant_of-self : goal.invariant_of-self
-invariant_of-self c = let s = low (goal.at.invariant_of-self c).After-ready_bank in (s.counted, s.placed)
+invariant_of-self c = let s = low (goal.at.invariant_of-self c).After-ready_bank in (s.counted, s.placed, c.self.invariant.2, s.four)
 
 pub returns-in_err-first-clause-one : goal.returns-in_err-first-clause-one
 returns-in_err-first-clause-one c = (none c).one
@@ -30,7 +30,7 @@ pub overflow_sub-self : goal.overflow_sub-self
 overflow_sub-self c = some_counted c.lower.new.banks c.self.inside.count c.in_ok-first.first (low (goal.at.overflow_sub-self c).After-ready_bank) c.in_ok-first.ensures.first
 
 pub invariant_of-self-2 : goal.invariant_of-self-2
-invariant_of-self-2 c = let s = (one c).1 in (s.counted, s.placed)
+invariant_of-self-2 c = let s = (one c).1 in (s.counted, s.placed, omega (arith, c.self.invariant.2), s.four)
 
 pub returns-clause-one : goal.returns-clause-one
 returns-clause-one c = (one c).0.one

@@ -46,7 +46,7 @@ pub returns-in_err-push-clause-banks : goal.returns-in_err-push-clause-banks
 returns-in_err-push-clause-banks c = absurd (never (goal.at.returns-in_err-push-clause-banks c).In_err-push)
 
 pub invariant_of-self-2 : goal.invariant_of-self-2
-invariant_of-self-2 c = let s = (taken (goal.at.invariant_of-self-2 c).In_ok-push).1 in (s.counted, s.placed)
+invariant_of-self-2 c = let s = (taken (goal.at.invariant_of-self-2 c).In_ok-push).1 in (s.counted, s.placed, omega arith, s.four)
 
 pub returns-clause-card : goal.returns-clause-card
 returns-clause-card c = (taken (goal.at.returns-clause-card c).In_ok-push).0.card

@@ -34,7 +34,7 @@ invariant_of-self-then-waiting-capacity c = back_whole c.args.self.now c.args.fl
 pub returns-then-waiting-capacity : goal.returns-then-waiting-capacity
 returns-then-waiting-capacity c =
     let b = c.args.self.now in
-    full (state_of b) _ c.args.flow c.args.lane c.args.length (priced (state_of b) c.args.flow c.args.lane c.args.length c.in-Some.share c.in-Some-lane.capacity c.in-Some-charge.charge c.in-Some.ensures c.in-Some-lane.ensures c.in-Some-charge.ensures.value).0 (omega (arith, c.if-waiting-capacity.true, c.len-waiting.ensures, c.in-Some-lane.ensures.is))
+    full (state_of b) _ c.args.flow c.args.lane c.args.length (priced (state_of b) c.args.flow c.args.lane c.args.length c.in-Some.share c.in-Some-lane.capacity c.in-Some-charge.charge c.in-Some.ensures c.in-Some-lane.ensures c.in-Some-charge.ensures.value).0 (omega (arith, c.if-waiting-capacity.true, c.len-waiting.ensures.count, c.in-Some-lane.ensures.is))
     (back_state b c.args.flow _ (c.drop-guard.ensures ∙ c.tag-start.ensures.kept ∙ c.new-guard.ensures.holds.0))
 
 pub invariant_of-self-then-self-ge-MOST : goal.invariant_of-self-then-self-ge-MOST
@@ -43,7 +43,7 @@ invariant_of-self-then-self-ge-MOST c = back_whole c.args.self.now c.args.flow _
 pub returns-then-self-ge-MOST : goal.returns-then-self-ge-MOST
 returns-then-self-ge-MOST c =
     let b = c.args.self.now in
-    spent (state_of b) _ c.args.flow c.args.lane c.args.length (priced (state_of b) c.args.flow c.args.lane c.args.length c.in-Some.share c.in-Some-lane.capacity c.in-Some-charge.charge c.in-Some.ensures c.in-Some-lane.ensures c.in-Some-charge.ensures.value).0 (omega (arith, c.if-waiting-capacity.false, c.len-waiting.ensures, c.in-Some-lane.ensures.is)) (omega (arith, c.if-self-ge-MOST.true))
+    spent (state_of b) _ c.args.flow c.args.lane c.args.length (priced (state_of b) c.args.flow c.args.lane c.args.length c.in-Some.share c.in-Some-lane.capacity c.in-Some-charge.charge c.in-Some.ensures c.in-Some-lane.ensures c.in-Some-charge.ensures.value).0 (omega (arith, c.if-waiting-capacity.false, c.len-waiting.ensures.count, c.in-Some-lane.ensures.is)) (omega (arith, c.if-self-ge-MOST.true))
     (back_state b c.args.flow _ (c.drop-guard-then-self-ge-MOST.ensures ∙ c.tag-start.ensures.kept ∙ c.new-guard.ensures.holds.0))
 
 pub invariant_of-self-2 : goal.invariant_of-self-2
@@ -55,7 +55,7 @@ invariant_of-self-2 c =
       starts = c.tag-start.ensures.tags.0 ∙ ap (λ (y : FlowRecord). max c.args.self.now.time y.end) c.new-guard.ensures.holds.1;
       ends = c.tag-start.ensures.tags.1;
       tagged = c.confirm.ensures ∙ c.tag-start.ensures.flow ∙ ap (λ (y : FlowRecord). record { end = c.tag-start.result.1; waiting = y.waiting + 1; in_card = y.in_card }) c.new-guard.ensures.holds.1;
-      room = omega (arith, c.if-waiting-capacity.false, c.len-waiting.ensures);
+      room = omega (arith, c.if-waiting-capacity.false, c.len-waiting.ensures.count);
       few = omega (arith, c.if-self-ge-MOST.false);
       answer = c.push.ensures.answer;
       lanes = c.push.ensures.after;
@@ -71,7 +71,7 @@ returns c =
       starts = c.tag-start.ensures.tags.0 ∙ ap (λ (y : FlowRecord). max c.args.self.now.time y.end) c.new-guard.ensures.holds.1;
       ends = c.tag-start.ensures.tags.1;
       tagged = c.confirm.ensures ∙ c.tag-start.ensures.flow ∙ ap (λ (y : FlowRecord). record { end = c.tag-start.result.1; waiting = y.waiting + 1; in_card = y.in_card }) c.new-guard.ensures.holds.1;
-      room = omega (arith, c.if-waiting-capacity.false, c.len-waiting.ensures);
+      room = omega (arith, c.if-waiting-capacity.false, c.len-waiting.ensures.count);
       few = omega (arith, c.if-self-ge-MOST.false);
       answer = c.push.ensures.answer;
       lanes = c.push.ensures.after;

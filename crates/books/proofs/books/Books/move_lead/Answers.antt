@@ -20,11 +20,11 @@ invariant_of-self-2 c =
     let out = c.in-Some.ensures in
     let b = c.args.self.now in
     moved_whole b c.args.lane c.in-Some.lead out.0 out.1 _ c.least_start-self.result c.pop.new.self c.push.new.self c.push.result c.send_one.ensures out.2 c.least_start-self.ensures
-    (omega (arith, c.if-len-slots.false, c.len.ensures, c.slots.ensures.0)) c.push.ensures.answer c.push.ensures.after
+    (omega (arith, c.if-len-slots.false, c.len.ensures.count, c.slots.ensures.0)) c.push.ensures.answer c.push.ensures.after
 
 pub returns : goal.returns
 returns c =
     let out = c.in-Some.ensures in
     let b = c.args.self.now in
     moved_state b c.args.lane c.in-Some.lead out.0 out.1 _ c.least_start-self.result c.pop.new.self c.push.new.self c.push.result c.send_one.ensures out.2 c.least_start-self.ensures
-    (omega (arith, c.if-len-slots.false, c.len.ensures, c.slots.ensures.0)) c.push.ensures.answer c.push.ensures.after
+    (omega (arith, c.if-len-slots.false, c.len.ensures.count, c.slots.ensures.0)) c.push.ensures.answer c.push.ensures.after

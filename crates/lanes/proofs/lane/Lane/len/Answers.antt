@@ -3,5 +3,5 @@ use Rattle.heap.proofs.Sorting.{length-sorted}
 use Rattle.lanes.specs.Records.{by_start}
 use Rattle.lanes.proofs.lane.Lane.len.Goals as goal
 
-pub returns : goal.returns
-returns c = c.len.ensures ∙ sym (length-sorted by_start c.args.self.now.requests)
+pub returns-clause-count : goal.returns-clause-count
+returns-clause-count c = c.len.ensures.count ∙ sym (length-sorted by_start c.args.self.now.requests)

@@ -4,6 +4,7 @@ use books::flows::FlowState;
 use books::refusal::Refusal;
 use sheet::shape::Sheet;
 
+// A call's numbers are the arguments of the board's own method, in the order in which they are checked.
 #[derive(Clone, Copy)]
 pub enum Call {
     Load(Sheet),

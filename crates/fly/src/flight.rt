@@ -42,6 +42,7 @@ fn perform<C: Card>(board: &mut Board<C>, call: Call) -> Answer
 pub fn fly<C: Card>(heap: Global, card: C, calls: &[Call]) -> Result<Flight<C>, Grounded<C>>
     ensures { MatchResult result (λ f. Promise C.Card card calls.now f.answers.items f.board.card) (λ g. g.card ≡ card) }
 {
+    // No `map_err`: its closure would take the card, which flies where there is memory.
     let Ok(mut answers) = Vec::with_capacity(heap, calls.len()) else {
         return Err(Grounded { card });
     };

@@ -1,4 +1,5 @@
-// The static library for C: the exports of the crate fuzkelai, each with the clauses of the function that it calls.
+// The static library for C: the exports of the crate fuzkelai, each with the clauses of the function that it calls. A crate is a library or a static
+// library, so each export stands in both. A C program gets one number.
 #![tactic(auto)]
 
 ghost use Rattle.std.specs.Prelude.{◌≡◌, true, ◌&&◌, Decides, ◌==◌, ◌≢◌};

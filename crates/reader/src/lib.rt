@@ -36,7 +36,7 @@ fn read_by_rules(bytes: &[u8], place: &mut Sheet) -> Result<(), SheetFault>
     Ok(())
 }
 
-/// Writes an accepted sheet into `place`; a refusal leaves it as it was.
+/// Writes an accepted sheet into `place`, which is the caller's, and no value of its own; a refusal leaves it as it was.
 ///
 /// Accepted is exactly what is a text of a sheet, and then it is that sheet; a refusal comes with the account of its number and line.
 pub fn read(bytes: &[u8], place: &mut Sheet) -> Result<(), SheetFault>

@@ -87,7 +87,7 @@ fn add_param(line: &[u8], draft: &mut Draft) -> Result<(), Refusal>
     Ok(())
 }
 
-// A line of a section after its first, added to what the lines before it say.
+// A line of a section after its first, added to what the lines before it say. The section is a value, since its letter and its count are asked of it too.
 pub(crate) fn add_line(line: &[u8], due: Section, draft: &mut Draft) -> Result<(), Refusal>
     ensures { Adds result draft.new (line_into due (draft_of draft.old) line.now) }
 {

@@ -1,4 +1,5 @@
-// A cursor's walk through the lines of a sheet.
+// A cursor's walk through the lines of a sheet. Clauses name the bytes that are left and the line's number apart, as the format's definitions do, which speak
+// of no cursor.
 ghost use Rattle.std.specs.Prelude.{◌≡◌, ◌≤◌, length, IfOk};
 ghost use Rattle.std.specs.Result.{result_map_both};
 ghost use Rattle.sheet.specs.Sheets.{content_of};
@@ -39,7 +40,8 @@ impl<'a> Cursor<'a> {
         Ok(line)
     }
 
-    // Takes a section's first line.
+    // Takes a section's first line. This and `entry` each take a line and place its refusal; a closure for what is between would need a contract of its own
+    // for each of the two.
     fn count(&mut self, due: Section) -> Result<usize, SheetFault>
         ensures value { Gives (λ n. n) result self.new (line_as (count_of due) (rest_of self.old) self.old.line) }
         ensures fits { IfOk result (λ n. n ≤ most_of due) }

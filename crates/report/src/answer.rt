@@ -1,5 +1,6 @@
 // The lines of answers.
 ghost use Rattle.std.specs.Prelude.{◌≡◌, ◌++◌, OnOk, Some};
+ghost use Rattle.std.specs.Fmt.{AppendsText};
 ghost use Rattle.report.specs.Answers.{answer_line, card_line, flow_line, reaping_line, refused_line, sending_line, step_line, unread_line};
 
 use board::answer::{Reaping, Sending};
@@ -131,20 +132,25 @@ impl fmt::Display for Line<Result<Answer, SheetFault>> {
     }
 }
 
+// Appends a line.
+fn put_line<D: fmt::Display + Drop>(out: &mut Vec<u8>, line: D) -> Result<(), AllocError>
+    ensures { OnOk result (AppendsText out.old.items out.new.items (D.output line)) }
+{
+    let text = format!(in *out.allocator(); "{line}")?;
+    out.extend_from_slice(text.as_bytes())?;
+    Ok(())
+}
+
 /// Appends the line of an answer.
 pub fn put_answer(out: &mut Vec<u8>, answer: Answer) -> Result<(), AllocError>
     ensures { OnOk result (out.new.items ≡ out.old.items ++ answer_line answer) }
 {
-    let line = format!(in *out.allocator(); "{}", Line(answer))?;
-    out.extend_from_slice(line.as_bytes())?;
-    Ok(())
+    put_line(out, Line(answer))
 }
 
 /// Appends the line of a sheet that was refused.
 pub fn put_unread(out: &mut Vec<u8>, fault: SheetFault) -> Result<(), AllocError>
     ensures { OnOk result (out.new.items ≡ out.old.items ++ unread_line fault) }
 {
-    let line = format!(in *out.allocator(); "{}", Line(fault))?;
-    out.extend_from_slice(line.as_bytes())?;
-    Ok(())
+    put_line(out, Line(fault))
 }

@@ -25,7 +25,8 @@ impl<'a> Report<'a> {
         }
     }
 
-    /// Puts the next lines into `out`, in place of what it holds. True where there may be more.
+    /// Puts the next lines into `out`, in place of what it holds. True where there may be more, which is all that its caller asks beside want of memory. A piece is a
+    /// value of which the contract tells every byte, as it would not of what a buffered writer has written.
     pub fn fill(&mut self, out: &mut Vec<u8>) -> Result<bool, AllocError>
         ensures { IfOk result (λ more. Filled more self.old self.new out.new.items) }
     {

@@ -65,7 +65,7 @@ impl From<AllocError> for NoScript {
 }
 
 impl Word {
-    // A line that begins with the word.
+    // A line that begins with the word: the text itself, which `Display` of `Expected` prints.
     fn form(self) -> &'static str
         ensures { result.now ≡ form_text self }
     {
@@ -83,7 +83,7 @@ impl Word {
 }
 
 impl Expected {
-    /// What was expected, in words.
+    /// What was expected, in words, for who asks without a formatter.
     pub fn text(self) -> &'static str
         ensures { result.now ≡ expected_text self }
     {

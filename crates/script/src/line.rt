@@ -82,7 +82,7 @@ fn arrival(numbers: &[u8]) -> Option<Call>
     Some(Call::Arrive { flow, lane, length })
 }
 
-// What a word alone says.
+// What a word alone says. Each word makes another call, so a table of closures would be longer.
 fn bare(word: Word) -> Option<Line>
     ensures { result ≡ bare_of word }
 {
@@ -94,7 +94,7 @@ fn bare(word: Word) -> Option<Line>
     }
 }
 
-// What a word says with numbers behind it.
+// What a word says with numbers behind it, likewise.
 fn numbered(word: Word, numbers: &[u8]) -> Option<Line>
     ensures { result ≡ numbered_of word numbers.now }
 {

@@ -1,4 +1,4 @@
-// A cursor's walk through the lines of a script.
+// A cursor's walk through the lines of a script. Clauses name the bytes that are left and the line's number apart, as the definitions do, which speak of no cursor.
 ghost use Rattle.std.specs.Prelude.{◌≡◌, ◌+◌, ◌<◌, ◌++◌, length, IfOk, Some, None, Ok, Err, MatchOption, MatchResult, OnSome};
 ghost use Rattle.script.specs.Scripts.{CardSaid, fault, line_at, next_line, skipped};
 ghost use Rattle.script.specs.Views.{rest_of};
@@ -51,7 +51,7 @@ impl<'a> Cursor<'a> {
         Some((number, line))
     }
 
-    // Takes the lines up to the one that names the card.
+    // Takes the lines up to the one that names the card. (A search by `find` would lose the number of the line after the last.)
     pub(crate) fn take_card(&mut self) -> Result<CardKind, ScriptFault>
         ensures { CardSaid (rest_of self.old) self.old.line result (rest_of self.new) self.new.line }
     {

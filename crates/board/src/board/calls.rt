@@ -41,7 +41,7 @@ impl<C: Card> Board<C> {
         Ok(())
     }
 
-    // The ticket, with the start and the end tag.
+    // The ticket, with the start and the end tag. The three numbers are checked in their order; a struct of them would be made for this call alone.
     pub fn arrive(
         &mut self,
         flow: u32,
@@ -63,10 +63,7 @@ impl<C: Card> Board<C> {
             }
             return Ok(Reaping::NotYet);
         };
-        let request = self
-            .books
-            .finish(ticket)
-            .ok_or(Refusal::Stray(ticket))?;
+        let request = self.books.finish(ticket).ok_or(Refusal::Stray(ticket))?;
         self.slots.free();
         Ok(Reaping::Finished {
             ticket,

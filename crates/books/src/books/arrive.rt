@@ -11,7 +11,7 @@ use lanes::records::Request;
 const MOST: u32 = 16_777_216;
 
 impl Books {
-    // The ticket, with the start and the end tag. The refusals stand written out: with `ok_or` and `?` for the lane and the charge each call of a board took 8
+    // The ticket, with the start and the end tag. An unknown flow ends the call before lane or length is looked at. The refusals stand written out: with `ok_or` and `?` for the lane and the charge each call of a board took 8
     // instructions more, of some 230.
     pub fn arrive(
         &mut self,

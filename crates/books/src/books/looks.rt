@@ -68,7 +68,7 @@ impl Books {
         self.lanes.any()
     }
 
-    // What a flow has: its share is the sheet's, and the rest the record's, so that each part is named.
+    // What a flow has: its share is the sheet's, and the rest the record's. An answer is told number by number, so a flow within it would be taken apart each time.
     pub fn flow(&self, flow: u32) -> Result<FlowState, Refusal>
         ensures { result ≡ flow_rule (state_of self.now) flow }
     {

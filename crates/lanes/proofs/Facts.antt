@@ -1,13 +1,15 @@
 -- What callers may use of the lanes and of the table. Assumes nothing.
-use Rattle.std.proofs.Common.{◌≡◌, List, [], ◌∷◌, length, take, ◌∙◌}
+use Rattle.std.proofs.Common.{◌≡◌, ℕ, ◌<◌, ◌≤◌, true, ltb, List, [], ◌∷◌, length, get_or, take, ◌∙◌, arith}
 use Rattle.std.specs.List.{AllByRecursion}
-use Rattle.std.proofs.lemmas.List.{length-map}
-use Rattle.heap.proofs.Sorting.{Ordered, Ordered-sorted}
-use Rattle.lanes.specs.Lanes.{lanes_of}
+use Rattle.std.proofs.lemmas.List.{length-map, length-take}
+use Rattle.std.proofs.lemmas.Bool.{and_from, lt-ltb}
+use Rattle.heap.proofs.Sorting.{Ordered, Ordered-sorted, length-sorted}
+use Rattle.lanes.specs.Lanes.{has_room, lanes_of}
 use Rattle.lanes.specs.Records.{by_start, by_ticket}
 use Rattle.lanes.specs.Table.{in_card_of}
 use Rattle.lanes.specs.Waits.{lanes_in, waits}
 use Rattle.lanes.specs.declared.lane.Lane.{Lane}
+use Rattle.lanes.specs.declared.records.Request.{Request}
 use Rattle.lanes.specs.declared.lanes.Lanes.{Lanes}
 use Rattle.lanes.specs.declared.table.InCard.{InCard}
 
@@ -26,3 +28,11 @@ lanes_ordered l = go l.lanes
 -- in order of tickets
 pub in_card_ordered : (c : InCard) → Ordered by_ticket (in_card_of c)
 in_card_ordered c = Ordered-sorted by_ticket (take c.count c.slots)
+
+-- at most 32 are in the card
+pub in_card_few : (c : InCard) → length (in_card_of c) ≤ 32
+in_card_few c = omega (arith, length-sorted by_ticket (take c.count c.slots), length-take c.count c.slots, c.within)
+
+-- a lane that is there and holds fewer than 32 has room
+pub has_room_lem : (i : ℕ) (ls : List (List Request)) → i < 8 → length (get_or ls i []) < 32 → has_room i ls ≡ true
+has_room_lem i ls b l = and_from (ltb i 8) (ltb (length (get_or ls i [])) 32) (lt-ltb i 8 b) (lt-ltb (length (get_or ls i [])) 32 l)

@@ -23,7 +23,7 @@ pub enum Parameter {
     Threshold,
 }
 
-// What the lines so far say, and the last parameter among them.
+// What the lines so far say, and the last parameter among them. `draft_of` tells it, since a sheet has no model.
 #[derive(Clone, Copy)]
 pub struct Draft {
     pub(crate) sheet: Sheet,

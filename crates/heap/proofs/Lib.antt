@@ -1,5 +1,4 @@
 pub mod Held
-pub mod Laws
 pub mod Queue
 pub mod Sorting
 pub mod Steps

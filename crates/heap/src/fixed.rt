@@ -2,32 +2,31 @@
 ghost use Rattle.std.specs.Prelude.{◌≡◌, ◌≤◌, [], length};
 ghost use Rattle.heap.specs.Fixed.{Enters, Leads, Leaves, Swaps};
 ghost use Rattle.heap.specs.Heaps.{Pushed, Removed, Replaced};
-ghost use Rattle.heap.specs.Order.{upto_by};
 
 use crate::heap::{Heap, least};
+use crate::order::TotalOrder;
 use std::marker::Model;
 
 // At most `N` records, heaped at all times. A contract sees those that are held, as they lie, the least first. The memory is an array
 // with a count, since it is what `Heap` borrows: a slice to its full length, of which a vector would lend the held part alone.
 #[derive(Drop)]
-pub struct FixedHeap<T: Ord, const N: usize> {
+pub struct FixedHeap<T: TotalOrder, const N: usize> {
     slots: [T; N],
     count: usize,
 }
 
-impl<T: Ord, const N: usize> Model for FixedHeap<T, N> {
+impl<T: TotalOrder, const N: usize> Model for FixedHeap<T, N> {
     ghost use Rattle.std.specs.Prelude.{◌≡◌, ◌≤◌, List, length, take};
     ghost use Rattle.heap.specs.Heaps.{Heaped};
-    ghost use Rattle.heap.specs.Order.{upto_by};
 
     ghost Value = { List T };
 
     ghost view = { λ h. take h.count h.slots };
 
-    ghost invariant = { λ h. (length h.slots ≡ N) × (h.count ≤ N) × Heaped (upto_by T.cmp) (take h.count h.slots) };
+    ghost invariant = { λ h. (length h.slots ≡ N) × (h.count ≤ N) × Heaped T.TotalOrder.upto (take h.count h.slots) };
 }
 
-impl<T: Ord + Copy, const N: usize> FixedHeap<T, N> {
+impl<T: TotalOrder + Copy, const N: usize> FixedHeap<T, N> {
     pub fn new() -> FixedHeap<T, N>
     where
         T: Default,
@@ -56,7 +55,7 @@ impl<T: Ord + Copy, const N: usize> FixedHeap<T, N> {
 
     // The least, which stays, or `None` where none is held.
     pub fn peek(&self) -> Option<T>
-        ensures { Leads (upto_by T.cmp) self.now result }
+        ensures { Leads T.TotalOrder.upto self.now result }
     {
         least(&self.slots, self.count)
     }
@@ -70,14 +69,14 @@ impl<T: Ord + Copy, const N: usize> FixedHeap<T, N> {
 
     // Gives the least out, or `None` where none is held. It is the one that `peek` gives.
     pub fn pop(&mut self) -> Option<T>
-        ensures { Leaves (upto_by T.cmp) self.old 0 result self.new }
+        ensures { Leaves T.TotalOrder.upto self.old 0 result self.new }
     {
         self.remove(0)
     }
 
     // Gives out the record in the place `at`, or `None` where none is held there.
     pub fn remove(&mut self, at: usize) -> Option<T>
-        ensures { Leaves (upto_by T.cmp) self.old at result self.new }
+        ensures { Leaves T.TotalOrder.upto self.old at result self.new }
     {
         remove_from(&mut self.slots, &mut self.count, at)
     }
@@ -93,20 +92,20 @@ impl<T: Ord + Copy, const N: usize> FixedHeap<T, N> {
 // The heap over memory that is lent to it, by which waiting requests and leads are kept. The memory and the count come apart: where the length
 // of a lent array is a parameter, the check does not tell what a struct around it leaves there.
 
-fn push_into<T: Ord + Copy>(items: &mut [T], len: &mut usize, x: T) -> bool
-    ensures { Pushed (upto_by T.cmp) items.old len.old x result items.new len.new }
+fn push_into<T: TotalOrder + Copy>(items: &mut [T], len: &mut usize, x: T) -> bool
+    ensures { Pushed T.TotalOrder.upto items.old len.old x result items.new len.new }
 {
     Heap::new(items, len).push(x)
 }
 
-fn remove_from<T: Ord + Copy>(items: &mut [T], len: &mut usize, at: usize) -> Option<T>
-    ensures { Removed (upto_by T.cmp) items.old len.old at result items.new len.new }
+fn remove_from<T: TotalOrder + Copy>(items: &mut [T], len: &mut usize, at: usize) -> Option<T>
+    ensures { Removed T.TotalOrder.upto items.old len.old at result items.new len.new }
 {
     Heap::new(items, len).remove(at)
 }
 
-fn replace_in<T: Ord + Copy>(items: &mut [T], len: &mut usize, at: usize, x: T) -> Option<T>
-    ensures { Replaced (upto_by T.cmp) items.old len.old at x result items.new len.new }
+fn replace_in<T: TotalOrder + Copy>(items: &mut [T], len: &mut usize, at: usize, x: T) -> Option<T>
+    ensures { Replaced T.TotalOrder.upto items.old len.old at x result items.new len.new }
 {
     Heap::new(items, len).replace(at, x)
 }

@@ -1,15 +1,11 @@
--- A lane in order, and the leads after one of them changes, from the heap's answers. Assumes nothing.
-use Rattle.std.proofs.Common.{rules, ◌≡◌, Bool, true, false, cond, ltb, List, length, get_or, Option, sym, ap, subst, arith}
+-- A lane in order, from the heap's answers. Assumes nothing.
+use Rattle.std.proofs.Common.{◌≡◌, Bool, true, false, cond, ltb, List, length, get_or, sym, ap, arith}
 use Rattle.std.proofs.lemmas.Bool.{lt-ltb, le-ltb}
-use Rattle.heap.specs.Fixed.{Enters, Leads}
+use Rattle.heap.specs.Fixed.{Enters}
 use Rattle.heap.specs.Sorting.{insert, sorted}
 use Rattle.heap.proofs.Queue.{entered_sorted}
 use Rattle.heap.proofs.Sorting.{length-sorted}
-use Rattle.heap.specs.Order.{upto_by}
-use Rattle.lanes.specs.Records.{by_start, by_ticket, lead_upto, request_upto}
-use Rattle.lanes.specs.contracts.records.LeadOrd.TheImpl as lead
-use Rattle.lanes.specs.contracts.records.RequestOrd.TheImpl as request
-use Rattle.lanes.specs.declared.records.Lead.{Lead}
+use Rattle.lanes.specs.Records.{by_start, by_ticket}
 use Rattle.lanes.specs.declared.records.Request.{Request}
 
 -- a request is told by its numbers
@@ -26,13 +22,3 @@ pub record Entered (xs : List Request) (x : Request) (r : Bool) (ys : List Reque
 pub entered : (xs ys : List Request) (x : Request) (r : Bool) → Enters 32 xs x r ys → Entered (sorted by_start xs) x r (sorted by_start ys)
 entered xs ys x true h = record { answer = sym (lt-ltb _ 32 (omega (arith, length-sorted by_start xs, h.0))); after = entered_sorted by_start told_by_start x xs ys h.1 }
 entered xs ys x false h = record { answer = sym (le-ltb _ 32 (omega (arith, length-sorted by_start xs, h.0))); after = ap (sorted by_start) h.1 }
-
--- the derived orders are those of the records' numbers
-pub request_order : (x y : Request) → upto_by request.cmp-value.it x y ≡ request_upto x y
-request_order x y = search rules
-
-pub lead_order : (x y : Lead) → upto_by lead.cmp-value.it x y ≡ lead_upto x y
-lead_order x y = search rules
-
-pub leads_by_lane : (xs : List Lead) (r : Option Lead) → Leads (upto_by lead.cmp-value.it) xs r → Leads lead_upto xs r
-leads_by_lane xs r h = subst (λ (u : Lead → Lead → Bool). Leads u xs r) (λ i x y. lead_order x y i) h

@@ -2,6 +2,9 @@
 ghost use Rattle.std.specs.Prelude.{◌≡◌};
 ghost use Rattle.heap.specs.Order.{IsOrder, upto_by};
 ghost use Rattle.lanes.specs.Records.{by_lead, by_start, lead_upto, request_upto};
+ghost use Rattle.heap.proofs.Sorting.{upto_alike, upto_chain, upto_either};
+
+use heap::order::TotalOrder;
 
 // One request of a flow, from its arrival until it is finished. The start tag and the ticket decide which is first; the rest only
 // decides where these are equal, which they never are on a board, since its tickets differ. With it two requests stand alike only if
@@ -20,12 +23,29 @@ pub struct Request {
     pub charge: u32,
 }
 
+// The order by which the heaps keep them.
+impl TotalOrder for Request {
+    ghost key = { by_start };
+
+    ghost upto = { request_upto };
+
+    ghost total = { λ x y. upto_either (by_start x) (by_start y) };
+
+    ghost antisymmetric = { λ x y. upto_alike (by_start x) (by_start y) };
+
+    ghost transitive = { λ x y z. upto_chain (by_start x) (by_start y) (by_start z) };
+
+    fn at_or_before(&self, other: &Request) -> bool {
+        self <= other
+    }
+}
+
 impl Request {
-    // The order as one answer, for who asks no more than that.
+    // The order as one answer, for who has not brought in the trait.
     pub fn at_or_before(&self, other: &Request) -> bool
         ensures { result ≡ request_upto self.now other.now }
     {
-        self <= other
+        TotalOrder::at_or_before(self, other)
     }
 }
 
@@ -36,12 +56,29 @@ pub struct Lead {
     pub lane: usize,
 }
 
+// The same of leads.
+impl TotalOrder for Lead {
+    ghost key = { by_lead };
+
+    ghost upto = { lead_upto };
+
+    ghost total = { λ x y. upto_either (by_lead x) (by_lead y) };
+
+    ghost antisymmetric = { λ x y. upto_alike (by_lead x) (by_lead y) };
+
+    ghost transitive = { λ x y z. upto_chain (by_lead x) (by_lead y) (by_lead z) };
+
+    fn at_or_before(&self, other: &Lead) -> bool {
+        self.cmp(other).is_le()
+    }
+}
+
 impl Lead {
-    // The same of leads.
+    // As that of requests.
     pub fn at_or_before(&self, other: &Lead) -> bool
         ensures { result ≡ lead_upto self.now other.now }
     {
-        self.cmp(other).is_le()
+        TotalOrder::at_or_before(self, other)
     }
 }
 

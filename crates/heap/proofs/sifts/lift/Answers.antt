@@ -1,25 +1,22 @@
-use Rattle.std.proofs.Common.{true, false, set, refl, ap, ◌∙◌, arith}
+use Rattle.std.proofs.Common.{true, false, set, refl, arith}
 use Rattle.std.proofs.lemmas.List.{length-set}
-use Rattle.std.specs.Ordering.{is_le}
-use Rattle.heap.specs.Order.{upto_by}
-use Rattle.heap.proofs.Laws.{total, transitive}
 use Rattle.heap.proofs.Steps as steps
 use Rattle.heap.proofs.sifts.lift.Goals as goal
 
-pub returns-then-is_le : goal.returns-then-is_le
-returns-then-is_le g c =
-    let upto = (upto_by g.T.Ord.cmp) in
-    let laws = g.met.T.Ord.total in
+pub returns-then-at_or_before : goal.returns-then-at_or_before
+returns-then-at_or_before g c =
+    let upto = g.T.TotalOrder.upto in
+    let laws = g.met.T.TotalOrder in
     let s = c.args.s.now in
     let hole = c.args.hole in
     let parent = c.args.parent in
     let x = c.args.x.now in
-    (refl, λ h. steps.rise_rests upto (total laws) (transitive laws) (set s hole x) parent hole c.requires.0 (steps.parent_read upto (total laws) (transitive laws) s parent hole x c.index-s-parent.result true c.requires.0 c.requires.1 (c.if-is_le.ensures ∙ ap is_le c.cmp.ensures)) h)
+    (refl, λ h. steps.rise_rests upto laws.total laws.transitive (set s hole x) parent hole c.requires.0 (steps.parent_read upto laws.total laws.transitive s parent hole x c.index-s-parent.result true c.requires.0 c.requires.1 c.if-at_or_before.ensures) h)
 
 pub returns : goal.returns
 returns g c =
-    let upto = (upto_by g.T.Ord.cmp) in
-    let laws = g.met.T.Ord.total in
+    let upto = g.T.TotalOrder.upto in
+    let laws = g.met.T.TotalOrder in
     let s = c.args.s.now in
     let hole = c.args.hole in
     let parent = c.args.parent in
@@ -30,8 +27,8 @@ returns g c =
     let between = length-set s hole y in
     let after = length-set (set s hole y) parent x in (
       steps.hole_shuffles s hole parent x y (omega arith) (omega arith) (omega arith) moved.is,
-      λ h. steps.rise_steps upto (total laws) (transitive laws) (set s hole x) (set (set s hole y) parent x) parent hole c.requires.0 (omega arith) (omega arith)
+      λ h. steps.rise_steps upto laws.total laws.transitive (set s hole x) (set (set s hole y) parent x) parent hole c.requires.0 (omega arith) (omega arith)
           (steps.hole_swaps s hole parent x y (omega arith) (omega arith) (omega arith) moved.is)
-          (steps.parent_read upto (total laws) (transitive laws) s parent hole x c.index-s-parent.result false c.requires.0 c.requires.1 (c.if-is_le.ensures ∙ ap is_le c.cmp.ensures))
+          (steps.parent_read upto laws.total laws.transitive s parent hole x c.index-s-parent.result false c.requires.0 c.requires.1 c.if-at_or_before.ensures)
           h,
     )

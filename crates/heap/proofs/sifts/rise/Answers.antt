@@ -1,8 +1,6 @@
 use Rattle.std.proofs.Common.{◌-◌, ◌<◌, arith, set, sym, ◌∙◌, subst}
 use Rattle.std.proofs.lemmas.List.Sorted.{IsPermutation-trans}
 use Rattle.heap.specs.Heaps.{Heaped}
-use Rattle.heap.specs.Order.{upto_by}
-use Rattle.heap.proofs.Laws.{total, transitive}
 use Rattle.heap.proofs.Steps as steps
 use Rattle.heap.proofs.sifts.rise.Goals as goal
 use Rattle.heap.proofs.sifts.rise.Goals.{else-loop-hole-test, then-loop-hole-test+then-not-lift}
@@ -15,11 +13,11 @@ loop-hole-preserved g c =
 
 pub returns-clause-heaped : goal.returns-clause-heaped
 returns-clause-heaped g c h =
-    let upto = upto_by g.T.Ord.cmp in
-    let laws = g.met.T.Ord.total in
+    let upto = g.T.TotalOrder.upto in
+    let laws = g.met.T.TotalOrder in
     let l = c.loop-hole in
     let x = c.args.x in
     elim c.loop-hole-test.branch [
-      | else-loop-hole-test w ↦ subst (λ v. Heaped upto (set v l.hole x)) (sym w.s-is) (steps.rise_ends upto (total laws) (transitive laws) (set l.s l.hole x) l.hole w.loop-hole-test.false (l.invariant.3 h))
+      | else-loop-hole-test w ↦ subst (λ v. Heaped upto (set v l.hole x)) (sym w.s-is) (steps.rise_ends upto laws.total laws.transitive (set l.s l.hole x) l.hole w.loop-hole-test.false (l.invariant.3 h))
       | then-loop-hole-test+then-not-lift w ↦ let stays = w.if-not-lift.ensures in subst (λ v. Heaped upto (set v l.hole x)) (sym (w.s-is ∙ stays.0)) (stays.1 (l.invariant.3 h))
     ]

@@ -1,7 +1,5 @@
 use Rattle.std.proofs.Common.{set, arith}
 use Rattle.std.proofs.lemmas.List.{length-set}
-use Rattle.heap.specs.Order.{upto_by}
-use Rattle.heap.proofs.Laws.{total, transitive}
 use Rattle.std.proofs.lemmas.List.Sorted.{IsPermutation-trans}
 use Rattle.heap.proofs.Steps as steps
 use Rattle.heap.proofs.sifts.sink.Goals as goal
@@ -9,13 +7,13 @@ use Rattle.heap.proofs.sifts.sink.Goals as goal
 pub returns : goal.returns
 returns g c =
     let l = c.loop-hole in
-    let laws = g.met.T.Ord.total in
+    let laws = g.met.T.TotalOrder in
     record {
       within = omega arith;
       shuffled = l.invariant.2;
       rising = λ x h.
           let wide = length-set l.s l.hole x in
-          steps.sink_ends (upto_by g.T.Ord.cmp) (total laws) (transitive laws) (set l.s l.hole x) l.hole (omega arith) (l.invariant.3 x h);
+          steps.sink_ends g.T.TotalOrder.upto laws.total laws.transitive (set l.s l.hole x) l.hole (omega arith) (l.invariant.3 x h);
     }
 
 pub loop-hole-preserved : goal.loop-hole-preserved

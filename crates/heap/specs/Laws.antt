@@ -13,15 +13,10 @@ le_gt Less e = refl
 le_gt Equal e = refl
 le_gt Greater e = sym e
 
-pub gt_le : (o : Ordering) → is_gt o ≡ false → is_le o ≡ true
+gt_le : (o : Ordering) → is_gt o ≡ false → is_le o ≡ true
 gt_le Less e = refl
 gt_le Equal e = refl
 gt_le Greater e = sym e
-
-pub gt_not_le : (o : Ordering) → is_gt o ≡ true → is_le o ≡ false
-gt_not_le Less e = sym e
-gt_not_le Equal e = sym e
-gt_not_le Greater e = refl
 
 either : (o : Ordering) → is_le (ordering_reverse o) ≡ false → is_le o ≡ true
 either Less e = refl

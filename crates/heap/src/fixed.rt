@@ -1,7 +1,7 @@
 // A heap that owns its memory.
 ghost use Rattle.std.specs.Prelude.{◌≡◌, ◌≤◌, [], length};
 ghost use Rattle.heap.specs.Fixed.{Enters, Leads, Leaves, Swaps};
-ghost use Rattle.heap.specs.Heaps.{Pushed, Removed, Replaced};
+ghost use Rattle.heap.specs.Heaps.{Heaped, Pushed, Removed, Replaced};
 
 use crate::heap::{Heap, least};
 use crate::order::TotalOrder;
@@ -48,7 +48,8 @@ impl<T: TotalOrder + Copy, const N: usize> FixedHeap<T, N> {
 
     // Those that are held, the least first.
     pub fn as_slice(&self) -> &[T]
-        ensures { result.now ≡ self.now }
+        ensures items { result.now ≡ self.now }
+        ensures heaped { Heaped T.TotalOrder.upto self.now }
     {
         &self.slots[..self.count]
     }
@@ -62,28 +63,36 @@ impl<T: TotalOrder + Copy, const N: usize> FixedHeap<T, N> {
 
     // Takes `x` in, and tells whether there was room, as a set's `insert` tells: a record is `Copy`, so a refusal has nothing to give back.
     pub fn push(&mut self, x: T) -> bool
-        ensures { Enters N self.old x result self.new }
+        ensures entered { Enters N self.old x result self.new }
+        ensures within { length self.new ≤ N }
+        ensures heaped { Heaped T.TotalOrder.upto self.new }
     {
         push_into(&mut self.slots, &mut self.count, x)
     }
 
     // Gives the least out, or `None` where none is held. It is the one that `peek` gives.
     pub fn pop(&mut self) -> Option<T>
-        ensures { Leaves T.TotalOrder.upto self.old 0 result self.new }
+        ensures left { Leaves T.TotalOrder.upto self.old 0 result self.new }
+        ensures within { length self.new ≤ N }
+        ensures heaped { Heaped T.TotalOrder.upto self.new }
     {
         self.remove(0)
     }
 
     // Gives out the record in the place `at`, or `None` where none is held there.
     pub fn remove(&mut self, at: usize) -> Option<T>
-        ensures { Leaves T.TotalOrder.upto self.old at result self.new }
+        ensures left { Leaves T.TotalOrder.upto self.old at result self.new }
+        ensures within { length self.new ≤ N }
+        ensures heaped { Heaped T.TotalOrder.upto self.new }
     {
         remove_from(&mut self.slots, &mut self.count, at)
     }
 
     // Puts `x` in for the record in the place `at`, which is given out, or `None` where none is held there.
     pub fn replace(&mut self, at: usize, x: T) -> Option<T>
-        ensures { Swaps self.old at x result self.new }
+        ensures swapped { Swaps self.old at x result self.new }
+        ensures within { length self.new ≤ N }
+        ensures heaped { Heaped T.TotalOrder.upto self.new }
     {
         replace_in(&mut self.slots, &mut self.count, at, x)
     }

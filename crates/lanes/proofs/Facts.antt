@@ -1,5 +1,5 @@
 -- What callers may use of the lanes and of the table. Assumes nothing.
-use Rattle.std.proofs.Common.{◌≡◌, ℕ, ◌<◌, ◌≤◌, true, ltb, List, [], ◌∷◌, length, get_or, take, ◌∙◌, arith}
+use Rattle.std.proofs.Common.{◌≡◌, ℕ, zero, suc, ◌<◌, ◌≤◌, true, ltb, List, [], ◌∷◌, length, get_or, take, ◌∙◌, arith}
 use Rattle.std.specs.List.{AllByRecursion}
 use Rattle.std.proofs.lemmas.List.{length-map, length-take}
 use Rattle.std.proofs.lemmas.Bool.{and_from, lt-ltb}
@@ -16,6 +16,15 @@ use Rattle.lanes.specs.declared.table.InCard.{InCard}
 -- there are eight lanes
 pub lanes_eight : (l : Lanes) → length (lanes_of l) ≡ 8
 lanes_eight l = length-map l.lanes waits ∙ l.eight
+
+-- at most 32 wait in a lane
+pub lanes_few : (l : Lanes) (i : ℕ) → length (get_or (lanes_of l) i []) ≤ 32
+lanes_few l i = go l.lanes i
+  where
+    go : (ls : List Lane) (i : ℕ) → length (get_or (lanes_in ls) i []) ≤ 32
+    go [] i = omega arith
+    go (v ∷ ls) zero = omega (arith, length-sorted by_start v.requests, v.within)
+    go (v ∷ ls) (suc i) = go ls i
 
 -- each lane is in order
 pub lanes_ordered : (l : Lanes) → AllByRecursion (Ordered by_start) (lanes_of l)

@@ -23,7 +23,7 @@ pub struct Request {
     pub charge: u32,
 }
 
-// The order by which the heaps keep them.
+// The order by which the heaps keep them. The start tags decide at once where they differ, which costs less than the derived order alone.
 impl TotalOrder for Request {
     ghost key = { by_start };
 
@@ -36,7 +36,7 @@ impl TotalOrder for Request {
     ghost transitive = { λ x y z. upto_chain (by_start x) (by_start y) (by_start z) };
 
     fn at_or_before(&self, other: &Request) -> bool {
-        self <= other
+        self.start < other.start || self.start == other.start && self <= other
     }
 }
 
@@ -69,7 +69,7 @@ impl TotalOrder for Lead {
     ghost transitive = { λ x y z. upto_chain (by_lead x) (by_lead y) (by_lead z) };
 
     fn at_or_before(&self, other: &Lead) -> bool {
-        self.cmp(other).is_le()
+        self.start < other.start || self.start == other.start && self.lane <= other.lane
     }
 }
 

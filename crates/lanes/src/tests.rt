@@ -1,7 +1,11 @@
+ghost use Rattle.std.specs.Prelude.{[], ◌∷◌, nat_le};
+ghost use Rattle.std.proofs.Common.{rules};
+
 use crate::lanes::Lanes;
 use crate::records::{Lead, Request};
 use crate::table::InCard;
 use heap::heap::Heap;
+use heap::order::{ByOrd, TotalOrder};
 use std::process::Abort;
 use std::test::Fail;
 
@@ -131,5 +135,57 @@ fn in_the_card_by_ticket(rt: HostRuntime) -> Result<(), Fail> {
     assert!(rt; table.remove(9).is_none());
     assert_eq!(rt; table.remove(31).ok_or("not there")?.ticket, 31);
     assert_eq!(rt; table.len(), 30);
+    Ok(())
+}
+
+// A record of which `==` tells more than the order.
+#[derive(Clone, Copy, PartialEq, Eq)]
+struct Job {
+    priority: u32,
+    id: u32,
+}
+
+impl TotalOrder for Job {
+    ghost key = { λ job. job.priority ∷ [] };
+
+    ghost upto = { λ x y. nat_le x.priority y.priority };
+
+    ghost total = { Prim.search rules };
+
+    ghost antisymmetric = { Prim.search rules };
+
+    ghost transitive = { Prim.search rules };
+
+    fn at_or_before(&self, other: &Job) -> bool {
+        self.priority <= other.priority
+    }
+}
+
+#[test]
+fn alike_and_yet_not_equal(rt: HostRuntime) -> Result<(), Fail> {
+    let mut items = [Job { priority: 0, id: 0 }; 3];
+    let mut len = 0;
+    for (priority, id) in [(2, 1), (1, 2), (1, 4)] {
+        assert!(rt; Heap::new(&mut items, &mut len).push(Job { priority, id }));
+    }
+    let first = Heap::new(&mut items, &mut len).pop().ok_or("empty")?;
+    let second = Heap::new(&mut items, &mut len).pop().ok_or("empty")?;
+    assert!(rt; first != second);
+    assert_eq!(rt; first.priority, 1);
+    assert_eq!(rt; second.priority, 1);
+    Ok(())
+}
+
+#[test]
+fn numbers_by_their_own_order(rt: HostRuntime) -> Result<(), Fail> {
+    let mut items = [ByOrd(0u64); 3];
+    let mut len = 0;
+    for number in [7, 3, 5] {
+        assert!(rt; Heap::new(&mut items, &mut len).push(ByOrd(number)));
+    }
+    for number in [3, 5, 7] {
+        let least = Heap::new(&mut items, &mut len).pop().ok_or("empty")?;
+        assert_eq!(rt; least.0, number);
+    }
     Ok(())
 }

@@ -13,6 +13,7 @@ use ring::Ring;
 #[derive(Drop)]
 pub struct QueueCard {
     commands: Ring<16>,
+    ghost few: { length commands ≤ 16 },
 }
 
 impl QueueCard {

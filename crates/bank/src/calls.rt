@@ -13,7 +13,7 @@ use std::array;
 impl BankCard {
     /// A card that holds no command.
     pub fn new() -> BankCard
-        ensures { result ≡ replicate 4 [] }
+        ensures { result.banks ≡ replicate 4 [] }
     {
         BankCard {
             banks: array::from_fn(|_| Bank::new()),
@@ -23,12 +23,10 @@ impl BankCard {
 
     /// What every bank card keeps: four banks, in each only tickets of its own, and in all at most 32 commands. The code does nothing.
     pub fn in_order(&self)
-        ensures four { length self.now ≡ 4 }
-        ensures placed { Placed self.now }
-        ensures few { length (commands_all self.now) ≤ 32 }
-    {
-        let _ = &self.count;
-    }
+        ensures four { length self.now.banks ≡ 4 }
+        ensures placed { Placed self.now.banks }
+        ensures few { length (commands_all self.now.banks) ≤ 32 }
+    {}
 }
 
 impl Card for BankCard {
@@ -36,14 +34,14 @@ impl Card for BankCard {
 
     ghost DEPTH = { 32 };
 
-    ghost held = { λ c. commands_all c };
+    ghost held = { λ c. commands_all c.banks };
 
-    ghost finishes = { λ c r after. (r ≡ (finish_rule c).0) × (after ≡ (finish_rule c).1) };
+    ghost finishes = { λ c r after. (r ≡ (finish_rule c.banks).0) × (after.banks ≡ (finish_rule c.banks).1) };
 
     fn submit(&mut self, command: Command) -> Result<(), CardFault>
-        ensures card { Submitted 32 (commands_all self.old) command result (commands_all self.new) }
-        ensures answer { result ≡ (submit_rule self.old command).0 }
-        ensures banks { self.new ≡ (submit_rule self.old command).1 }
+        ensures card { Submitted 32 (commands_all self.old.banks) command result (commands_all self.new.banks) }
+        ensures answer { result ≡ (submit_rule self.old.banks command).0 }
+        ensures banks { self.new.banks ≡ (submit_rule self.old.banks command).1 }
     {
         if self.count >= Self::DEPTH {
             return Err(CardFault::Full);
@@ -58,14 +56,16 @@ impl Card for BankCard {
     }
 
     fn finish(&mut self) -> Option<(u32, u8)>
-        ensures one { Finished (commands_all self.old) result (commands_all self.new) }
-        ensures answer { result ≡ (finish_rule self.old).0 }
-        ensures banks { self.new ≡ (finish_rule self.old).1 }
+        ensures one { Finished (commands_all self.old.banks) result (commands_all self.new.banks) }
+        ensures answer { result ≡ (finish_rule self.old.banks).0 }
+        ensures banks { self.new.banks ≡ (finish_rule self.old.banks).1 }
     {
-        lower(&mut self.banks);
-        let first = ready_bank(&self.banks)?;
+        // Lent whole: a bank that is lent through `self` asks for the card's facts at once, before the command is gone.
+        let banks = &mut self.banks;
+        lower(banks);
+        let first = ready_bank(banks)?;
         self.count -= 1;
-        self.banks[first].pop()
+        banks[first].pop()
     }
 
     fn count(&self) -> usize {

@@ -1,8 +1,11 @@
 //! The bank card: depth 32, four banks that work side by side.
 #![tactic(auto)]
 
+ghost use Rattle.std.specs.Prelude.{◌≡◌, ◌≤◌, length};
+ghost use Rattle.bank.specs.Jobs.{commands_all};
+ghost use Rattle.bank.specs.Rules.{Placed};
+
 use crate::bank::Bank;
-use std::marker::Model;
 
 mod bank;
 mod calls;
@@ -15,17 +18,9 @@ pub use crate::calls::bank_laws;
 pub struct BankCard {
     banks: [Bank; 4],
     count: usize,
-}
-
-// Clauses see the jobs of each bank, oldest first.
-impl Model for BankCard {
-    ghost use Rattle.std.specs.Prelude.{◌≡◌, ◌≤◌, List, length};
-    ghost use Rattle.bank.specs.Jobs.{Job, commands_all};
-    ghost use Rattle.bank.specs.Rules.{Placed};
-
-    ghost Value = { List (List Job) };
-
-    ghost view = { λ c. c.banks };
-
-    ghost invariant = { λ c. (c.count ≡ length (commands_all c.banks)) × Placed c.banks × (c.count ≤ 32) × (length c.banks ≡ 4) };
+    // Facts of every card. They are no invariant of a model, which would hide them from a proof that has no `&` to the card.
+    ghost four: { length banks ≡ 4 },
+    ghost counted: { count ≡ length (commands_all banks) },
+    ghost placed: { Placed banks },
+    ghost few: { count ≤ 32 },
 }

@@ -1,6 +1,10 @@
-use Rattle.std.proofs.Common.{arith, rules}
+use Rattle.std.proofs.Common.{sym, arith, length-take}
+use Rattle.std.proofs.lemmas.List.{take_more_set}
 use Rattle.card.proofs.Bags.{more_end}
 use Rattle.cards_for_tests.proofs.newest.NewestCardCard.submit.Goals as goal
 
-pub returns-clause-card : goal.returns-clause-card
-returns-clause-card c = (omega arith, search rules, more_end c.args.command _ _ c.push.ensures.items)
+pub returns : goal.returns
+returns c =
+    let q = c.args.self.now in
+    let order = take_more_set q.commands q.len c.args.command (omega arith) in
+    record { card = (simp length-take (omega arith), sym c.if-has_ticket.ensures, more_end c.args.command _ _ order); order = order }

@@ -51,7 +51,7 @@ pub trait Card {
         ensures { result ≡ length (held self.now) };
 
     /// Answers `DEPTH`.
-    final fn capacity() -> usize
+    fn capacity() -> usize
         ensures { result ≡ DEPTH }
     {
         Self::DEPTH

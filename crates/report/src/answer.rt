@@ -11,6 +11,7 @@ use fly::call::Answer;
 use reader::fault::SheetFault;
 use std::alloc::AllocError;
 use std::fmt;
+use std::io::Write;
 
 /// Shown as the line that tells of a value, with its line feed.
 #[derive(Clone, Copy)]
@@ -132,13 +133,11 @@ impl fmt::Display for Line<Result<Answer, SheetFault>> {
     }
 }
 
-// Appends a line.
+// Appends a line, into the room that `out` has; want of memory is all that can fail.
 fn put_line<D: fmt::Display + Drop>(out: &mut Vec<u8>, line: D) -> Result<(), AllocError>
     ensures { OnOk result (AppendsText out.old.items out.new.items (D.output line)) }
 {
-    let text = format!(in *out.allocator(); "{line}")?;
-    out.extend_from_slice(text.as_bytes())?;
-    Ok(())
+    write!(out, "{line}").map_err(|_error| AllocError)
 }
 
 /// Appends the line of an answer.

@@ -134,7 +134,7 @@ impl fmt::Display for Line<Result<Answer, SheetFault>> {
 }
 
 // Appends a line, into the room that `out` has; want of memory is all that can fail.
-fn put_line<D: fmt::Display + Drop>(out: &mut Vec<u8>, line: D) -> Result<(), AllocError>
+pub(crate) fn put_line<D: fmt::Display + Drop>(out: &mut Vec<u8>, line: D) -> Result<(), AllocError>
     ensures { OnOk result (AppendsText out.old.items out.new.items (D.output line)) }
 {
     write!(out, "{line}").map_err(|_error| AllocError)

@@ -1,15 +1,14 @@
 // A report is printed piece by piece, so that little memory is taken for it.
-ghost use Rattle.std.specs.Prelude.{◌≡◌, IfOk, string_bytes};
+ghost use Rattle.std.specs.Prelude.{◌≡◌, IfOk};
 ghost use Rattle.report.specs.Answers.{report};
 ghost use Rattle.report.specs.Pieces.{Filled, Told, text_of};
 
-use crate::answer::Line;
+use crate::answer::{Line, put_line};
 use crate::report::Report;
 use fly::call::Answer;
 use reader::fault::SheetFault;
 use script::script::Step;
 use std::alloc::AllocError;
-use std::fmt::Write;
 
 // A piece ends with the line that fills so many bytes.
 const PIECE: usize = 65_536;
@@ -25,27 +24,17 @@ impl<'a> Report<'a> {
         }
     }
 
-    /// Puts the next lines into `out`, in place of what it holds. True where there may be more, which is all that its caller asks beside want of memory. A piece is a
-    /// value of which the contract tells every byte, as it would not of what a buffered writer has written.
+    /// Puts the next lines into `out`, in place of what it holds and in its memory. True where there may be more, which is all that its caller asks beside want of memory.
+    /// A piece is a value of which the contract tells every byte, as it would not of what a buffered writer has written.
     pub fn fill(&mut self, out: &mut Vec<u8>) -> Result<bool, AllocError>
         ensures { IfOk result (λ more. Filled more self.old self.new out.new.items) }
-    {
-        let mut piece = String::with_capacity(*out.allocator(), PIECE)?;
-        let more = self.write_piece(&mut piece)?;
-        *out = piece.into_bytes();
-        Ok(more)
-    }
-
-    // The same, as text.
-    fn write_piece(&mut self, out: &mut String) -> Result<bool, AllocError>
-        ensures { IfOk result (λ more. Filled more self.old self.new (string_bytes out.new)) }
     {
         out.clear();
         while out.len() < PIECE {
             let Some(line) = self.next() else {
                 return Ok(false);
             };
-            write!(out, "{line}")?;
+            put_line(out, line)?;
         }
         Ok(true)
     }

@@ -17,7 +17,9 @@ impl<C: Card> Board<C> {
         if !self.books.waits() {
             return Ok(Sending::Empty);
         }
-        let nearest = self.books.nearest_lead(lane);
-        self.hand_lead(nearest)
+        let Some((near, lead)) = self.books.nearest_lead(lane) else {
+            return self.hand_lead(None);
+        };
+        self.hand_lead(Some((near, lead)))
     }
 }

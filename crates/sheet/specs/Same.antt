@@ -1,5 +1,5 @@
 -- When `==` holds of two flows and of two sheets, as a test. That it holds of what says the same, and of that alone, is
--- a clause of the law `equality_laws`.
+-- a clause of each `eq`, and of the law `equality_laws`.
 use Rattle.std.specs.Prelude.{Bool, nat_eq}
 use Rattle.std.specs.Ordering.{on, eq_of_both}
 use Rattle.std.specs.Cmp.Lexicographic.{pointwise}

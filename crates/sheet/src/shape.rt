@@ -9,7 +9,7 @@ use crate::list::FixedList;
 // A lane is the queue of one processor core, and its number says how many requests may wait in it. `slots` is D, how many
 // requests may be in the card, and `threshold` is T, how far ahead of virtual time a request that is sent may start. What a sheet
 // says is told by `content_of`, and not by a model: a sheet is copied, and its view forgets the free places, from which no copy could be had.
-#[derive(Clone, Copy, PartialEq, Eq)]
+#[derive(Clone, Copy)]
 pub struct Sheet {
     pub(crate) flows: FixedList<Flow, 16>,
     pub(crate) lanes: FixedList<u8, 8>,

@@ -21,11 +21,7 @@ said_of_all text (Ok s) bytes h = λ input e. h ∙ ap line_for (front_decides b
 said_of_all text (Err y) bytes h = tt
 
 -- the line of a refusal is its text with a line feed
-fault_line : (f : SheetFault) → fault_text f ++ codes "\n" ≡ line_for (Err f)
+pub fault_line : (f : SheetFault) → fault_text f ++ codes "\n" ≡ line_for (Err f)
 fault_line f =
     append_assoc (codes "refused ") (decimal (refusal_number f.refusal) ++ (codes " " ++ decimal f.line)) (codes "\n")
     ∙ ap (λ l. codes "refused " ++ l) (append_assoc (decimal (refusal_number f.refusal)) (codes " " ++ decimal f.line) (codes "\n") ∙ ap (λ l. decimal (refusal_number f.refusal) ++ l) (append_assoc (codes " ") (decimal f.line) (codes "\n")))
-
-pub fault_told : {X Y : Type 0} (text : X → List ℕ) (r : Result X Y) (bytes : List ℕ) (f : SheetFault) → read_sheet bytes ≡ Err f → IfOk r (λ s. text s ≡ fault_text f ++ codes "\n") → IfOk r (λ s. text s ≡ line_for (read_sheet bytes))
-fault_told text (Ok s) bytes f e h = h ∙ fault_line f ∙ ap line_for (sym e)
-fault_told text (Err y) bytes f e h = tt

@@ -4,6 +4,7 @@ ghost use Rattle.sheet.specs.Sheets.{content_of};
 ghost use Rattle.reader.specs.Format.{read_sheet};
 ghost use Rattle.reader.specs.Verdict.{line_for};
 
+use crate::fault::SheetFault;
 use crate::read;
 use sheet::shape::Sheet;
 use std::alloc::{AllocError, Global};
@@ -22,13 +23,21 @@ fn accepted(heap: Global, sheet: &Sheet) -> Result<String, AllocError>
     format!(in heap; "accepted {flows} {lanes} {slots} {threshold}\n")
 }
 
+// The lemma says that a fault's text and a line feed are the line of a refusal.
+#[tactic(auto, using(crate::proofs::Fronts::fault_line))]
+fn refused(heap: Global, fault: SheetFault) -> Result<String, AllocError>
+    ensures { IfOk result (λ s. string_bytes s ≡ line_for (Err fault)) }
+{
+    format!(in heap; "{fault}\n")
+}
+
 fn verdict_on(heap: Global, bytes: &[u8]) -> Result<String, AllocError>
     ensures { IfOk result (λ s. string_bytes s ≡ line_for (read_sheet bytes.now)) }
 {
     let mut sheet = Sheet::new();
     match read(bytes, &mut sheet) {
         Ok(()) => accepted(heap, &sheet),
-        Err(fault) => format!(in heap; "{fault}\n"),
+        Err(fault) => refused(heap, fault),
     }
 }
 

@@ -1,11 +1,9 @@
 -- The steps of the loops over a line's bytes.
-use Rattle.std.proofs.Common.{◌≡◌, ℕ, ◌+◌, ◌-◌, ◌*◌, ◌^◌, ◌<◌, ◌≤◌, not, ◌&&◌, eqb, ltb, leb, ◌⊎◌, List, [], ◌∷◌, length, get_or, take, drop, Some, None, Option, cond, sym, refl, ap, ◌∙◌, ⊎_elim, pow-suc, add-one, add_comm, arith}
+use Rattle.std.proofs.Common.{◌≡◌, ℕ, ◌+◌, ◌-◌, ◌*◌, ◌^◌, ◌<◌, ◌≤◌, not, ◌&&◌, eqb, ltb, leb, ◌⊎◌, List, [], ◌∷◌, length, get_or, take, drop, Some, None, sym, refl, ap, ◌∙◌, ⊎_elim, pow-suc, add-one, arith}
 use Rattle.std.proofs.Math.Nat.{pow-le-pow_right}
-use Rattle.std.proofs.lemmas.List.{take_rest}
-use Rattle.std.proofs.lemmas.Bool.{cond-true, cond-false, cond_both, ne_eqb, le-leb, le-ltb, and_from, and_parts, and_left, and_right, not_from_false, cases_Bool, leb-true, lt-ltb}
-use Rattle.std.specs.Option.{option_map}
-use Rattle.std.specs.List.{position, position_or_len}
-use Rattle.std.proofs.lemmas.List.Recursion.{is_position_or_len}
+use Rattle.std.proofs.lemmas.List.{length-take}
+use Rattle.std.proofs.lemmas.Bool.{cond-true, cond-false, ne_eqb, le-leb, le-ltb, and_from, and_parts, and_left, and_right, not_from_false, cases_Bool, leb-true, lt-ltb}
+use Rattle.std.specs.List.{slice_split, onto_first}
 use Rattle.reader.specs.Lines.{before, cut_at, is_digit, digits_from, value_below, sized, padded, number_of}
 
 pub number_is : (ds : List ℕ) → 1 ≤ length ds → length ds ≤ 10 → (length ds ≤ 1) ⊎ (get_or ds 0 0 ≡ 48 → ⊥) → number_of ds ≡ digits_from 0 ds
@@ -18,22 +16,28 @@ number_is ds lo hi o =
 pub digit_fits : (n i d : ℕ) → n < 10 ^ i → d ≤ 9 → n * 10 + d < 10 ^ (i + 1)
 digit_fits n i d h k = rw (add-one, pow-suc) (omega arith)
 
--- `before` is the library's word for the first place that passes a test
-before_is : (b : ℕ) (xs : List ℕ) → position_or_len (λ x. eqb x b) xs ≡ before b xs
-before_is b xs = sym (is_position_or_len (before b) (λ x. eqb x b) refl (λ x ys. ap (cond (eqb x b) 0) (add_comm (before b ys) 1)) xs)
+-- the first piece of a text that is split at each b ends before the first b
+first_piece : (b : ℕ) (xs : List ℕ) → (rest : List (List ℕ)) × (slice_split (λ x. eqb x b) xs ≡ take (before b xs) xs ∷ rest)
+first_piece b [] = ([], refl)
+first_piece b (x ∷ xs) =
+    let r = first_piece b xs in
+    ⊎_elim
+    (λ t. (slice_split (λ x. eqb x b) xs, cond-true (eqb x b) _ _ t ∙ ap (λ n. take n (x ∷ xs) ∷ slice_split (λ x. eqb x b) xs) (sym (cond-true (eqb x b) 0 (before b xs + 1) t))))
+    (λ f. (r.0, cond-false (eqb x b) _ _ f ∙ ap (onto_first x) r.1 ∙ ap (λ n. take n (x ∷ xs) ∷ r.0) (sym (cond-false (eqb x b) 0 (before b xs + 1) f ∙ add-one (before b xs)))))
+    (cases_Bool (eqb x b))
 
--- a text is cut where the first b is found
-cut_of : (b : ℕ) (s : List ℕ) → cut_at b s ≡ option_map (λ i. (take i s, drop (i + 1) s)) (position (λ x. eqb x b) s)
-cut_of b s =
-    rw (before_is b s) (
-    cond_both (ltb (before b s) (length s)) (Some (before b s)) None (λ o. cut_at b s ≡ option_map (λ i. (take i s, drop (i + 1) s)) o) (λ h. cond-true _ _ _ h) (λ h. cond-false _ _ _ h)
-    )
+-- so that piece, which an iterator's first call gives, is what stands before the first b
+pub left_is : (b : ℕ) (xs left : List ℕ) → left ≡ get_or (slice_split (λ x. eqb x b) xs) 0 left → left ≡ take (before b xs) xs
+left_is b xs left e = e ∙ ap (λ l. get_or l 0 left) (first_piece b xs).1
 
-pub cut_missing : (b : ℕ) (s : List ℕ) (r : Option ℕ) → r ≡ position (λ x. eqb x b) s → r ≡ None → None ≡ cut_at b s
-cut_missing b s r e n = sym (cut_of b s ∙ ap (option_map (λ i. (take i s, drop (i + 1) s))) (sym e ∙ n))
+-- where the text is cut, by what stands before the first b
+pub cut_missing : (b : ℕ) (s left : List ℕ) → left ≡ take (before b s) s → length s < length left + 1 → None ≡ cut_at b s
+cut_missing b s left e h = sym (cond-false (ltb (before b s) (length s)) _ None (le-ltb _ _ (omega (arith, ap length e, length-take (before b s) s))))
 
-pub cut_found : (b : ℕ) (s : List ℕ) (r : Option ℕ) (i : ℕ) → r ≡ position (λ x. eqb x b) s → r ≡ Some i → Some (take i s, take (length s - (i + 1)) (drop (i + 1) s)) ≡ cut_at b s
-cut_found b s r i e n = rw take_rest (sym (cut_of b s ∙ ap (option_map (λ j. (take j s, drop (j + 1) s))) (sym e ∙ n)))
+pub cut_found : (b : ℕ) (s left right : List ℕ) → left ≡ take (before b s) s → length left + 1 ≤ length s → right ≡ drop (length left + 1) s → Some (left, right) ≡ cut_at b s
+cut_found b s left right e h r =
+    let at : length left ≡ before b s = omega (arith, ap length e, length-take (before b s) s) in
+    ap (λ l. Some (l, right)) e ∙ ap (λ q. Some (take (before b s) s, q)) (r ∙ ap (λ n. drop (n + 1) s) at) ∙ sym (cond-true (ltb (before b s) (length s)) _ None (lt-ltb _ _ (omega (arith, at))))
 
 -- so ten digits stay below 10 ^ 10
 pub below_ten : (i n : ℕ) (ds : List ℕ) → n < 10 ^ i → i + length ds ≤ 10 → value_below (10 ^ 10) n ds ≡ digits_from n ds

@@ -50,12 +50,12 @@ impl Script {
     }
 }
 
-// How many line feeds a text has.
+// How many line feeds a text has. A sum is computed on many bytes at once, which `filter` and `count` are not.
 fn feeds(text: &[u8]) -> usize
     ensures value { result ≡ feeds_in text.now }
     ensures bound { result ≤ length text.now }
 {
-    text.iter().filter(|b| **b == b'\n').count()
+    text.iter().map(|b| usize::from(*b == b'\n')).sum()
 }
 
 /// Reads a script. No call is made here, and none of a text that is at fault.

@@ -1,9 +1,10 @@
 // A cursor's walk through the lines of a sheet. Clauses name the bytes that are left and the line's number apart, as the format's definitions do, which speak
 // of no cursor.
-ghost use Rattle.std.specs.Prelude.{◌≡◌, ◌≤◌, length, IfOk};
+ghost use Rattle.std.specs.Prelude.{◌≡◌, ◌≤◌, length, IfOk, ok_or};
 ghost use Rattle.std.specs.Result.{result_map_both};
 ghost use Rattle.sheet.specs.Sheets.{content_of};
 ghost use Rattle.reader.specs.Lines.{count_of, line_into, most_of};
+ghost use Rattle.reader.specs.declared.fault.Refusal.TheVariants.{Form};
 ghost use Rattle.reader.specs.Format.{fault, line_as, section, sheet_from};
 ghost use Rattle.reader.specs.Views.{Gives, Takes, draft_of, rest_of};
 
@@ -26,18 +27,15 @@ impl<'a> Cursor<'a> {
         }
     }
 
-    // Takes a line, without its line feed.
-    fn take_line(&mut self) -> Result<&'a [u8], SheetFault>
-        ensures { Takes result self.old self.new }
+    // Takes a line, without its line feed. Who takes it makes the refusal: with a `Result` of a slice or a `SheetFault` here, a check took a third more time.
+    fn take_line(&mut self) -> Option<&'a [u8]>
+        ensures { Takes (ok_or result (fault Form self.old.line)) self.old self.new }
     {
         let rest = &self.bytes[self.at..];
-        let (line, _) = cut(rest, b'\n').ok_or(SheetFault {
-            refusal: Refusal::Form,
-            line: self.line,
-        })?;
+        let (line, _) = cut(rest, b'\n')?;
         self.at += line.len() + 1;
         self.line += 1;
-        Ok(line)
+        Some(line)
     }
 
     // Takes a section's first line. This and `entry` each take a line and place its refusal; a closure for what is between would need a contract of its own
@@ -47,16 +45,19 @@ impl<'a> Cursor<'a> {
         ensures fits { IfOk result (λ n. n ≤ most_of due) }
     {
         let line = self.line;
-        let text = self.take_line()?;
-        count_of(text, due).map_err(|refusal| SheetFault { refusal, line })
+        self.take_line()
+            .ok_or(Refusal::Form)
+            .and_then(|text| count_of(text, due))
+            .map_err(|refusal| SheetFault { refusal, line })
     }
 
-    // Takes one of a section's further lines.
+    // Takes one of a section's further lines. In two steps, since nothing is known of a draft that a closure in `and_then` changed.
     fn entry(&mut self, due: Section, draft: &mut Draft) -> Result<(), SheetFault>
         ensures { Gives (λ _. draft_of draft.new) result self.new (line_as (line_into due (draft_of draft.old)) (rest_of self.old) self.old.line) }
     {
         let line = self.line;
-        let text = self.take_line()?;
+        let refusal = Refusal::Form;
+        let text = self.take_line().ok_or(SheetFault { refusal, line })?;
         add_line(text, due, draft).map_err(|refusal| SheetFault { refusal, line })
     }
 

@@ -113,7 +113,3 @@ refuses depth before after s k r rest HeldAlready sub =
     subst (λ v. Done (Err (ByCard HeldAlready)) s before after (handed s k r rest v))
     (sym (cond-false (leb depth (length before)) _ _ (lt-leb depth (length before) sub.0) ∙ cond-true (among r.ticket before) _ _ sub.1))
     (record { says = refl; numbered = refl; books = refl; card = sub.2 })
-
--- what is said of an option's value, where it has one
-pub given : {A : Type 0} {o : Option A} (P : Type 0) (Q : A → Type 0) (x : A) → o ≡ Some x → Q x → MatchOption o P Q
-given P Q x e q = subst (λ o. MatchOption o P Q) (sym e) q

@@ -1,5 +1,5 @@
 // Handing the lead of a lane to the card.
-ghost use Rattle.std.specs.Prelude.{◌≡◌, ◌<◌, ◌≤◌, Some, Ok, MatchOption, ⊤, length};
+ghost use Rattle.std.specs.Prelude.{◌≡◌, ◌<◌, ◌≤◌, Some, Ok, length};
 ghost use Rattle.lanes.specs.Lanes.{head_of};
 ghost use Rattle.books.specs.Model.{lane_at};
 ghost use Rattle.books.specs.Views.{state_of};
@@ -14,18 +14,14 @@ use lanes::records::Request;
 use slots::hand_over;
 
 impl<C: Card> Board<C> {
-    // Hands a lead, with its lane, to the card, where a slot is free. A slot is asked for even where there is no lead.
-    pub(crate) fn hand_lead(&mut self, lead: Option<(u32, Request)>) -> Result<Sending, Refusal>
-        requires { MatchOption lead ⊤ (λ p. head_of (lane_at (state_of self.old.books) p.0) ≡ Some p.1) }
+    // Hands the lead of a lane to the card, where a slot is free.
+    pub(crate) fn hand_lead(&mut self, lane: u32, lead: Request) -> Result<Sending, Refusal>
+        requires { head_of (lane_at (state_of self.old.books) lane) ≡ Some lead }
         ensures full { (state_of self.old.books).sheet.slots ≤ length (state_of self.old.books).in_card → Done result (state_of self.new.books) (C.held self.old.card) (C.held self.new.card) (stays (state_of self.old.books) (Ok NoSlot)) }
-        ensures room { length (state_of self.old.books).in_card < (state_of self.old.books).sheet.slots → MatchOption lead (Done result (state_of self.new.books) (C.held self.old.card) (C.held self.new.card) (stays (state_of self.old.books) (Ok Empty))) (λ p. Done result (state_of self.new.books) (C.held self.old.card) (C.held self.new.card) (hand_first C.DEPTH (C.held self.old.card) (state_of self.old.books) p.0 (lane_at (state_of self.old.books) p.0))) }
+        ensures room { length (state_of self.old.books).in_card < (state_of self.old.books).sheet.slots → Done result (state_of self.new.books) (C.held self.old.card) (C.held self.new.card) (hand_first C.DEPTH (C.held self.old.card) (state_of self.old.books) lane (lane_at (state_of self.old.books) lane)) }
     {
         let Some(grant) = self.slots.take() else {
             return Ok(Sending::NoSlot);
-        };
-        let Some((lane, lead)) = lead else {
-            grant.give_back(&mut self.slots);
-            return Ok(Sending::Empty);
         };
         let command = Command {
             ticket: lead.ticket,
@@ -38,5 +34,17 @@ impl<C: Card> Board<C> {
             flow: lead.flow,
             charge: lead.charge,
         })
+    }
+
+    // What is told where no lane is ready: a slot is asked for even then.
+    pub(crate) fn hand_nothing(&mut self) -> Result<Sending, Refusal>
+        ensures full { (state_of self.old.books).sheet.slots ≤ length (state_of self.old.books).in_card → Done result (state_of self.new.books) (C.held self.old.card) (C.held self.new.card) (stays (state_of self.old.books) (Ok NoSlot)) }
+        ensures room { length (state_of self.old.books).in_card < (state_of self.old.books).sheet.slots → Done result (state_of self.new.books) (C.held self.old.card) (C.held self.new.card) (stays (state_of self.old.books) (Ok Empty)) }
+    {
+        let Some(grant) = self.slots.take() else {
+            return Ok(Sending::NoSlot);
+        };
+        grant.give_back(&mut self.slots);
+        Ok(Sending::Empty)
     }
 }

@@ -18,8 +18,8 @@ impl<C: Card> Board<C> {
             return Ok(Sending::Empty);
         }
         let Some((near, lead)) = self.books.nearest_lead(lane) else {
-            return self.hand_lead(None);
+            return self.hand_nothing();
         };
-        self.hand_lead(Some((near, lead)))
+        self.hand_lead(near, lead)
     }
 }

@@ -18,6 +18,6 @@ impl<C: Card> Board<C> {
         if lead.start > reach {
             return Ok(Sending::Throttled(lead.start - reach));
         }
-        self.hand_lead(Some((lane, lead)))
+        self.hand_lead(lane, lead)
     }
 }
